@@ -1,0 +1,42 @@
+//! Whole numbers on the grid: lengths, points, and the two roundings that geometry rests on.
+//! The layer above uses the values as stated: what a length's spelling means, the least whole numbers that reach.
+//! A length is in nanometres; a point has the unit that its user names.
+#![tactic(auto)]
+
+ghost use Rattle.std.specs.Prelude.{◌≡◌, ℕ, ◌*◌, ◌+◌, ◌^◌, ◌≤◌, ℤ, pos, ◌+ℤ◌, ◌*ℤ◌, ◌≤ℤ◌, ◌<ℤ◌, neg_ℤ};
+ghost use Rattle.plane.specs.Plane.{up2_of};
+
+mod memory;
+
+pub use memory::Memory;
+
+/// A plain pair of whole numbers. Each user says its unit.
+#[derive(Clone, Copy, PartialEq, Eq, Debug)]
+pub struct Point {
+    pub x: i64,
+    pub y: i64,
+}
+
+/// The least m with `m * m >= 2 * a * a`: the reach along the diagonals of the octagon round a disc of radius a.
+pub fn up2(a: u64) -> u64
+    requires { a ≤ 2 ^ 31 }
+    ensures { result ≡ up2_of a }
+{
+    let square = 2 * (a * a);
+    let root = square.isqrt();
+    if root * root == square {
+        root
+    } else {
+        root + 1
+    }
+}
+
+/// The least m with `m * d >= a`.
+pub fn ceil_div(a: i64, d: i64) -> i64
+    requires { pos 0 <ℤ d }
+    ensures reaches { a ≤ℤ (result *ℤ d) }
+    ensures least { (m : ℤ) → a ≤ℤ (m *ℤ d) → result ≤ℤ m }
+{
+    let quotient = a / d;
+    if a % d > 0 { quotient + 1 } else { quotient }
+}
