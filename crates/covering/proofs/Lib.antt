@@ -1,0 +1,10 @@
+pub mod Counts
+pub mod On
+pub mod Sides
+pub mod Lists
+pub mod Octagon
+pub mod Laws
+pub mod Split
+pub mod Chains
+pub mod Rows
+pub mod Repeats

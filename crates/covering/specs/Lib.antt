@@ -1,0 +1,5 @@
+pub mod Covering
+pub mod Edges
+pub mod Corners
+pub mod Ends
+pub mod Laws
