@@ -1,0 +1,2 @@
+pub mod GridPoints
+pub mod Brushed
