@@ -77,7 +77,7 @@ start_on p e x y = record {
     either z a b e = by_lt_z {P = Between a b z} a b (λ l. inl (omega (arith, ints), omega (arith, ints))) (λ l. inr (omega (arith, ints), omega (arith, ints)))
 
 -- a scale may be taken out of a product
-pull : (m n : ℤ) (k : ℕ) → m *ℤ (pos k *ℤ n) ≡ pos k *ℤ (m *ℤ n)
+pub pull : (m n : ℤ) (k : ℕ) → m *ℤ (pos k *ℤ n) ≡ pos k *ℤ (m *ℤ n)
 pull (pos j) n k = mul_swap j k n
 pull (negsuc j) n k =
     neg_pos (suc j) (pos k *ℤ n) ∙ (ap neg_ℤ (mul_swap (suc j) k n)

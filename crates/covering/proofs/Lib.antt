@@ -8,3 +8,4 @@ pub mod Split
 pub mod Chains
 pub mod Rows
 pub mod Repeats
+pub mod Units

@@ -7,7 +7,7 @@ use Rattle.plane.proofs.Times.{mul_add, mul_sub, mul_lt}
 use Rattle.covering.specs.Covering.{Edge, IsOn, Between}
 use Rattle.covering.proofs.Counts.{neg_pos, level_run, rise_run, fall_run}
 
-same_pos : (n : ℕ) (c e : ℤ) → 1 ≤ n → pos n *ℤ c ≡ pos n *ℤ e → c ≡ e
+pub same_pos : (n : ℕ) (c e : ℤ) → 1 ≤ n → pos n *ℤ c ≡ pos n *ℤ e → c ≡ e
 same_pos n c e one h =
     by_lt_z {P = c ≡ e} c e
     (λ l. absurd (let m = mul_lt n c e one l in omega (arith, ints)))

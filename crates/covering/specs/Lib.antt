@@ -3,3 +3,4 @@ pub mod Edges
 pub mod Corners
 pub mod Ends
 pub mod Laws
+pub mod Units

@@ -3,6 +3,7 @@
 //! A coordinate has the unit that its user names.
 #![tactic(auto)]
 
+ghost use Rattle.covering.specs.Units.{FinerBoundsLaw, FinerCoverLaw, StrictFinerCoverLaw, FinerCoverAllLaw};
 ghost use Rattle.covering.specs.Laws.{CornersLaw, StrictCornersLaw, RepeatsLaw, StrictRepeatsLaw, ExactCoverLaw, StrictExactCoverLaw, SomeCoverLaw, BoxCoverLaw, StrictBoxCoverLaw, CountsLaw, TurnedLaw, OrderLaw, SlitsLaw, SplitLaw, EndsLaw};
 
 /// The corners of a tight octagon cover exactly its points, and strictly those strictly in it.
@@ -58,4 +59,12 @@ pub fn split_law()
 /// Off the edges of a closed chain it does not matter which end of an edge counts.
 pub fn ends_law()
     ensures { EndsLaw }
+{}
+
+/// A board in a smaller unit has the same places: in an octagon, under a chain, and under chains counted together.
+pub fn units_law()
+    ensures bounds { FinerBoundsLaw }
+    ensures chain { FinerCoverLaw }
+    ensures inner { StrictFinerCoverLaw }
+    ensures chains { FinerCoverAllLaw }
 {}
