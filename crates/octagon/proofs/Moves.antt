@@ -144,12 +144,6 @@ fits_sum a x y h k l = omega (arith, ints)
 pub fits_difference : (a x y : ℤ) → Small a → IsNearZero (2 ^ 40) x → IsNearZero (2 ^ 40) y → FitsSigned w64 (code_read a +ℤ code_read (code_read x -ℤ code_read y))
 fits_difference a x y h k l = omega (arith, ints)
 
-pub fits_sub : (a b : ℤ) → Small a → Small b → FitsSigned w64 (code_read a -ℤ code_read b)
-fits_sub a b h k = omega (arith, ints)
-
-pub fits_add : (a b : ℤ) → Small a → Small b → FitsSigned w64 (code_read a +ℤ code_read b)
-fits_add a b h k = omega (arith, ints)
-
 -- ---- the corners
 abbrev pub code_corners : Bounds → List Point
 code_corners b =
