@@ -1,0 +1,9 @@
+pub mod Strings
+pub mod Unique
+pub mod Steps
+pub mod Local
+pub mod Taken
+pub mod Whole
+pub mod Stored
+pub mod Nodes
+pub mod Told

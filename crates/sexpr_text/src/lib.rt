@@ -3,9 +3,11 @@
 //! Places are numbers of bytes from the start of the text.
 #![tactic(auto)]
 
+mod content;
 mod error;
 mod laws;
 mod reader;
+mod scan;
 mod store;
 mod tree;
 
