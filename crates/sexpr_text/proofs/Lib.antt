@@ -7,3 +7,17 @@ pub mod Whole
 pub mod Stored
 pub mod Nodes
 pub mod Told
+pub mod Spots
+pub mod Finish
+pub mod Utf8Ends
+pub mod Cuts
+pub mod CutLaws
+pub mod CutBack
+pub mod CutExact
+pub mod Parse
+pub mod Fronts
+pub mod Wheres
+pub mod Table
+pub mod FaultLaws
+pub mod Assembled
+pub mod WalkSteps

@@ -4,12 +4,15 @@
 #![tactic(auto)]
 
 mod content;
+mod cut;
 mod error;
 mod laws;
 mod reader;
 mod scan;
+mod stand;
 mod store;
 mod tree;
+mod walk;
 
 pub use error::{TextError, TextFault, TextKind};
 pub use laws::{

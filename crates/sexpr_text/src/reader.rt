@@ -9,6 +9,7 @@ ghost use Rattle.sexpr_text.specs.declared.reader.Failure.TheVariants.{Memory as
 
 use crate::scan::{is_end, space_end, string_end, word_end};
 use crate::store::Store;
+use crate::walk::fault_of;
 use crate::{NodeKind, TextError, Tree};
 use grid_num::Memory;
 use std::alloc::Global;
@@ -172,6 +173,6 @@ pub fn read(alloc: Global, bytes: &[u8]) -> Result<Tree, TextError>
     match whole(alloc, bytes) {
         Ok(tree) => Ok(tree),
         Err(Failure::Memory) => Err(TextError::Memory),
-        Err(Failure::NoTree) => Err(TextError::Memory),
+        Err(Failure::NoTree) => Err(TextError::Bad(fault_of(bytes))),
     }
 }
