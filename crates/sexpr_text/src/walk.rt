@@ -26,7 +26,9 @@ pub fn walk(bytes: &[u8]) -> Option<TextFault>
         cut = later;
         at += 1;
     }
-    let kind = kind_at_end(stand)?;
+    let Some(kind) = kind_at_end(stand) else {
+        return None;
+    };
     Some(TextFault { at, kind })
 }
 
