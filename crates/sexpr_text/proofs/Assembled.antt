@@ -1,16 +1,16 @@
 -- What a walk over the bytes has found.
-use Rattle.std.proofs.Common.{◌≡◌, ◌⊎◌, ℕ, zero, suc, ◌+◌, ◌-◌, ◌<◌, ◌≤◌, Bool, true, false, cond, nat_lt, List, [], ◌∷◌, ◌++◌, length, slice_index, take, refl, sym, ◌∙◌, ap, subst, inl, inr, arith, Option, Some, None, slice_get}
+use Rattle.std.proofs.Common.{◌≡◌, ◌⊎◌, ℕ, ◌+◌, ◌<◌, ◌≤◌, List, [], ◌∷◌, length, slice_index, take, sym, ◌∙◌, ap, subst, inl, inr, arith, Some, None, slice_get}
 use Rattle.std.proofs.lemmas.Option.{slice_get-get_or, slice_get_past}
 use Rattle.std.proofs.lemmas.List.{take_more, take_all}
 use Rattle.sexpr_text.specs.Grammar.{Forest, Spelt}
-use Rattle.sexpr_text.specs.Spot.{Spot, step, spot}
+use Rattle.sexpr_text.specs.Spot.{step, spot}
 use Rattle.sexpr_text.specs.Spot.Spot.{Behind, Lost}
-use Rattle.sexpr_text.specs.Cut.{Cut, cut_step, cuts}
+use Rattle.sexpr_text.specs.Cut.{cut_step, cuts}
 use Rattle.sexpr_text.specs.Cut.Cut.{Full, Broken}
 use Rattle.sexpr_text.specs.Faults.{IsFront, IsUtf8Front, IsPlace, IsFault, first_row}
 use Rattle.sexpr_text.specs.Seen.{refused, ended}
 use Rattle.sexpr_text.specs.declared.error.TextKind.{TextKind}
-use Rattle.sexpr_text.proofs.Spots.{next, spelt_behind}
+use Rattle.sexpr_text.proofs.Spots.{spelt_behind}
 use Rattle.sexpr_text.proofs.Fronts.{front_made, behind_tree}
 use Rattle.sexpr_text.proofs.FaultLaws.{place_byte}
 use Rattle.sexpr_text.proofs.CutLaws.{cuts-append, utf8_whole}
@@ -35,22 +35,22 @@ pub stopped : (bytes : List ℕ) (at : ℕ) → at < length bytes → (spot byte
     → IsFault bytes at (refused (spot bytes at) (slice_index bytes at))
 stopped bytes at h s c d =
     placed bytes at (refused (spot bytes at) (slice_index bytes at))
-      (place_byte bytes at h (alive bytes at (omega arith) s c) (elim d [
-        | inl lost ↦ inl lost
-        | inr cut ↦ inr (λ u. utf8_whole (take (at + 1) bytes) u (cut_next bytes at h ∙ cut))
-      ]))
-      (ap (first_row (where_of (spot bytes at))) (slice_get-get_or bytes at 0 h) ∙ row_refused (spot bytes at) (slice_index bytes at) s)
+    (place_byte bytes at h (alive bytes at (omega arith) s c) (elim d [
+      | inl lost ↦ inl lost
+      | inr cut ↦ inr (λ u. utf8_whole (take (at + 1) bytes) u (cut_next bytes at h ∙ cut))
+    ]))
+    (ap (first_row (where_of (spot bytes at))) (slice_get-get_or bytes at 0 h) ∙ row_refused (spot bytes at) (slice_index bytes at) s)
 
 pub over : (bytes : List ℕ) (at : ℕ) (k : TextKind) → at ≡ length bytes → (spot bytes at ≡ Lost → ⊥) → (cuts Full (take at bytes) ≡ Broken → ⊥) → ended (spot bytes at) ≡ Some k
     → IsFault bytes at k
 over bytes at k h s c e =
     placed bytes at k
-      (record {
-        front = alive bytes at (omega arith) s c;
-        longest = λ f. absurd (omega (arith, f.within, h));
-        none = λ tree t. (let b : spot bytes at ≡ Behind = ap (spot bytes) h ∙ spelt_behind bytes tree t in let g : None ≡ Some k = sym (ap ended b) ∙ e in cc);
-      })
-      (ap (first_row (where_of (spot bytes at))) (slice_get_past bytes at (omega (arith, h))) ∙ row_ended (spot bytes at) k e)
+    (record {
+      front = alive bytes at (omega arith) s c;
+      longest = λ f. absurd (omega (arith, f.within, h));
+      none = λ tree t. (let b : spot bytes at ≡ Behind = ap (spot bytes) h ∙ spelt_behind bytes tree t in let g : None ≡ Some k = sym (ap ended b) ∙ e in cc);
+    })
+    (ap (first_row (where_of (spot bytes at))) (slice_get_past bytes at (omega (arith, h))) ∙ row_ended (spot bytes at) k e)
 
 pub spelt : (bytes : List ℕ) (at : ℕ) → at ≡ length bytes → (cuts Full (take at bytes) ≡ Broken → ⊥) → spot bytes at ≡ Behind → (tree : Forest) × Spelt bytes tree
 spelt bytes at h c b =

@@ -1,14 +1,11 @@
 -- Bytes whose cut isn't broken begin UTF-8.
-use Rattle.std.proofs.Common.{◌≡◌, ◌⊎◌, ℕ, zero, suc, ◌+◌, ◌-◌, ◌*◌, ◌<◌, ◌≤◌, ◌/◌, ◌%◌, Bool, true, false, ◌&&◌, ◌==◌, cond, nat_lt, nat_le, List, [], ◌∷◌, ◌++◌, length, refl, sym, ◌∙◌, ap, subst, inl, inr, arith, append_assoc}
-use Rattle.std.proofs.lemmas.Str.{IsUtf8-append, IsUtf8-encode, IsUtf8-nil}
-use Rattle.std.specs.Str.{IsUtf8}
+use Rattle.std.proofs.Common.{◌≡◌, ◌⊎◌, ℕ, zero, suc, ◌+◌, ◌-◌, ◌*◌, ◌<◌, ◌≤◌, ◌/◌, ◌%◌, Bool, true, false, ◌&&◌, ◌==◌, cond, nat_lt, nat_le, List, [], ◌∷◌, refl, sym, ◌∙◌, ap, inl, inr, arith}
 use Rattle.std.specs.Char.{IsScalar, encode_utf8}
 use Rattle.sexpr_text.specs.Cut.{Cut, lead, follows, cut_step, cuts}
 use Rattle.sexpr_text.specs.Cut.Cut.{Full, Next, Broken}
-use Rattle.sexpr_text.specs.Faults.{IsUtf8Front}
 use Rattle.sexpr_text.proofs.Utf8Ends.{below_or_past}
 use Rattle.sexpr_text.proofs.Cuts.{goes}
-use Rattle.sexpr_text.proofs.CutLaws.{cuts-append, broken_on}
+use Rattle.sexpr_text.proofs.CutLaws.{broken_on}
 use lib.Utf8.{low_scalar}
 
 -- the last bytes of a character are filled in
@@ -36,8 +33,8 @@ valid_follows (suc left) = omega arith
 valid_lead : (c : ℕ) → Valid (lead c)
 valid_lead c =
     valid_cond (nat_lt c 128) Full _ tt (valid_cond (nat_lt c 194) Broken _ tt (valid_cond (nat_lt c 224) (Next 128 191 0) _ (omega arith) (valid_cond (c == 224) (Next 160 191 1) _ (omega arith)
-      (valid_cond (c == 237) (Next 128 159 1) _ (omega arith) (valid_cond (nat_lt c 240) (Next 128 191 1) _ (omega arith) (valid_cond (c == 240) (Next 144 191 2) _ (omega arith)
-        (valid_cond (nat_lt c 244) (Next 128 191 2) _ (omega arith) (valid_cond (c == 244) (Next 128 143 2) Broken (omega arith) tt))))))))
+    (valid_cond (c == 237) (Next 128 159 1) _ (omega arith) (valid_cond (nat_lt c 240) (Next 128 191 1) _ (omega arith) (valid_cond (c == 240) (Next 144 191 2) _ (omega arith)
+    (valid_cond (nat_lt c 244) (Next 128 191 2) _ (omega arith) (valid_cond (c == 244) (Next 128 143 2) Broken (omega arith) tt))))))))
 
 valid_step : (s : Cut) (c : ℕ) → Valid s → Valid (cut_step s c)
 valid_step Full c h = valid_lead c
@@ -122,9 +119,10 @@ char3 x y z a b d e f g h i = on (below_or_past 224 x) (below_or_past x 237) (be
     made : ((x ≡ 224 → ⊥) ⊎ (160 ≤ y)) → ((x < 237) ⊎ ((x ≡ 237) × (y ≤ 159))) ⊎ (237 < x) → Char (x ∷ y ∷ z ∷ [])
     made j k = record {
       code = (x - 224) * 4096 + (y - 128) * 64 + (z - 128);
-      scalar = low_or_high ((x - 224) * 4096 + (y - 128) * 64 + (z - 128)) (elim k [ | inl l ↦ inl (omega arith) | inr m ↦ inr (omega arith, omega arith) ]);
+      scalar = low_or_high ((x - 224) * 4096 + (y - 128) * 64 + (z - 128)) (elim k [ inl l ↦ inl (omega arith) | inr m ↦ inr (omega arith, omega arith) ]);
       spells = three_of ((x - 224) * 4096 + (y - 128) * 64 + (z - 128)) x y z (omega arith) (omega arith) (omega arith) (omega arith) (omega arith);
     }
+
     on : (224 < x) ⊎ (x ≤ 224) → (x < 237) ⊎ (237 ≤ x) → (237 < x) ⊎ (x ≤ 237) → Char (x ∷ y ∷ z ∷ [])
     on (inl l) (inl m) n = made (inl (λ q. omega arith)) (inl (inl m))
     on (inl l) (inr m) (inl n) = made (inl (λ q. omega arith)) (inr n)

@@ -1,9 +1,8 @@
 -- Bytes begin UTF-8 exactly where their cut isn't broken.
-use Rattle.std.proofs.Common.{◌≡◌, ◌⊎◌, ℕ, zero, suc, ◌+◌, ◌-◌, ◌<◌, ◌≤◌, Bool, true, false, ◌&&◌, ◌==◌, cond, nat_lt, nat_le, List, [], ◌∷◌, ◌++◌, length, refl, sym, ◌∙◌, ap, subst, inl, inr, arith, append_assoc, length-append}
+use Rattle.std.proofs.Common.{◌≡◌, ℕ, zero, suc, ◌+◌, ◌<◌, ◌≤◌, Bool, true, false, ◌==◌, nat_lt, List, [], ◌∷◌, ◌++◌, length, refl, sym, ◌∙◌, ap, subst, inl, inr, arith, length-append}
 use Rattle.std.proofs.lemmas.Str.{IsUtf8-append, IsUtf8-encode, IsUtf8-nil}
 use Rattle.std.specs.Str.{IsUtf8}
-use Rattle.std.specs.Char.{IsScalar, encode_utf8}
-use Rattle.sexpr_text.specs.Cut.{Cut, lead, follows, cut_step, cuts}
+use Rattle.sexpr_text.specs.Cut.{lead, cuts}
 use Rattle.sexpr_text.specs.Cut.Cut.{Full, Next, Broken}
 use Rattle.sexpr_text.specs.Faults.{IsUtf8Front}
 use Rattle.sexpr_text.proofs.CutLaws.{cuts-append, broken_on}
@@ -53,6 +52,7 @@ led x bs h =
   where
     bad : lead x ≡ Broken → Led x bs
     bad e = let f : Broken ≡ Full = sym (broken_on bs) ∙ sym (ap (λ l. cuts l bs) e) ∙ h in absurd cc
+
     on : (a : Bool) → nat_lt x 128 ≡ a → (b : Bool) → nat_lt x 194 ≡ b → (c : Bool) → nat_lt x 224 ≡ c → (d : Bool) → (x == 224) ≡ d → (e : Bool) → (x == 237) ≡ e
         → (f : Bool) → nat_lt x 240 ≡ f → (g : Bool) → (x == 240) ≡ g → (i : Bool) → nat_lt x 244 ≡ i → (j : Bool) → (x == 244) ≡ j → Led x bs
     on true p b q c r d s e t f u g v i w j y =

@@ -1,14 +1,13 @@
 -- The fronts of UTF-8, by their cut.
-use Rattle.std.proofs.Common.{◌≡◌, ◌⊎◌, ℕ, zero, suc, ◌+◌, ◌-◌, ◌*◌, ◌<◌, ◌≤◌, ◌/◌, ◌%◌, Bool, true, false, ◌&&◌, ◌==◌, cond, nat_lt, nat_le, List, [], ◌∷◌, ◌++◌, length, refl, sym, ◌∙◌, ap, subst, inl, inr, arith, append_assoc}
-use Rattle.std.proofs.lemmas.Str.{IsUtf8-append, IsUtf8-encode, IsUtf8-nil}
-use Rattle.std.specs.Str.{IsUtf8, all_scalars, encode_utf8_all}
+use Rattle.std.proofs.Common.{◌≡◌, ◌⊎◌, ℕ, ◌+◌, ◌<◌, ◌≤◌, ◌/◌, ◌%◌, true, false, nat_lt, List, [], ◌∷◌, ◌++◌, refl, sym, ◌∙◌, ap, inl, inr, arith}
+use Rattle.std.specs.Str.{all_scalars, encode_utf8_all}
 use Rattle.std.specs.Char.{IsScalar, encode_utf8}
-use Rattle.sexpr_text.specs.Cut.{Cut, lead, follows, cut_step, cuts}
+use Rattle.sexpr_text.specs.Cut.{Cut, lead, cut_step, cuts}
 use Rattle.sexpr_text.specs.Cut.Cut.{Full, Next, Broken}
 use Rattle.sexpr_text.specs.Faults.{IsUtf8Front}
 use Rattle.sexpr_text.proofs.Utf8Ends.{below_or_past, scalar_first}
-use Rattle.sexpr_text.proofs.Cuts.{goes, lead1, lead2, lead3, lead4, three, three_back}
-use lib.Utf8.{scalar_cases, low_scalar}
+use Rattle.sexpr_text.proofs.Cuts.{goes, lead1, lead2, lead4, three}
+use lib.Utf8.{scalar_cases}
 
 pub two : (c : ℕ) → 128 ≤ c → c < 2048 → cuts Full ((192 + c / 64) ∷ (128 + c % 64) ∷ []) ≡ Full
 unfolding cuts
@@ -22,9 +21,10 @@ four c h k = on (below_or_past c 262144) (below_or_past c 1048576)
         → cut_step (cut_step (cut_step (lead (240 + c / 262144)) (128 + c / 4096 % 64)) (128 + c / 64 % 64)) (128 + c % 64) ≡ Full
     via low high e a b =
         ap (λ x. cut_step (cut_step (cut_step x (128 + c / 4096 % 64)) (128 + c / 64 % 64)) (128 + c % 64)) e
-          ∙ ap (λ x. cut_step (cut_step x (128 + c / 64 % 64)) (128 + c % 64)) (goes low high 2 (128 + c / 4096 % 64) a b)
-          ∙ ap (λ x. cut_step x (128 + c % 64)) (goes 128 191 1 (128 + c / 64 % 64) (omega arith) (omega arith))
-          ∙ goes 128 191 0 (128 + c % 64) (omega arith) (omega arith)
+        ∙ ap (λ x. cut_step (cut_step x (128 + c / 64 % 64)) (128 + c % 64)) (goes low high 2 (128 + c / 4096 % 64) a b)
+        ∙ ap (λ x. cut_step x (128 + c % 64)) (goes 128 191 1 (128 + c / 64 % 64) (omega arith) (omega arith))
+        ∙ goes 128 191 0 (128 + c % 64) (omega arith) (omega arith)
+
     on : (c < 262144) ⊎ (262144 ≤ c) → (c < 1048576) ⊎ (1048576 ≤ c)
         → cut_step (cut_step (cut_step (lead (240 + c / 262144)) (128 + c / 4096 % 64)) (128 + c / 64 % 64)) (128 + c % 64) ≡ Full
     on (inl a) b = via 144 191 (let e : 240 + c / 262144 ≡ 240 = omega arith in rw e refl) (omega arith) (omega arith)
@@ -36,9 +36,11 @@ unfolding cuts encode_utf8
 one_char c s = on (below_or_past c 128) (below_or_past c 2048) (below_or_past c 65536)
   where
     side : (c < 55296) ⊎ (57344 ≤ c)
-    side = elim (scalar_cases c s) [ | inl a ↦ inl a | inr b ↦ inr b.0 ]
+    side = elim (scalar_cases c s) [ inl a ↦ inl a | inr b ↦ inr b.0 ]
+
     fits : c < 1114112
-    fits = elim (scalar_cases c s) [ | inl a ↦ omega (arith, a) | inr b ↦ b.1 ]
+    fits = elim (scalar_cases c s) [ inl a ↦ omega (arith, a) | inr b ↦ b.1 ]
+
     on : (c < 128) ⊎ (128 ≤ c) → (c < 2048) ⊎ (2048 ≤ c) → (c < 65536) ⊎ (65536 ≤ c) → cuts Full (encode_utf8 c) ≡ Full
     on (inl a) y z = let p : nat_lt c 128 ≡ true = grind (arith, a) in rw p (lead1 c a)
     on (inr a) (inl b) z = let p : nat_lt c 128 ≡ false = grind (arith, a) in let q : nat_lt c 2048 ≡ true = grind (arith, b) in rw (p, q) (two c a b)

@@ -1,11 +1,8 @@
 -- Characters and their cuts.
-use Rattle.std.proofs.Common.{◌≡◌, ◌⊎◌, ℕ, zero, suc, ◌+◌, ◌-◌, ◌*◌, ◌<◌, ◌≤◌, ◌/◌, ◌%◌, Bool, true, false, ◌&&◌, ◌==◌, cond, nat_lt, nat_le, List, [], ◌∷◌, ◌++◌, length, refl, sym, ◌∙◌, ap, subst, inl, inr, arith}
-use Rattle.std.specs.Str.{IsUtf8, all_scalars, encode_utf8_all}
-use Rattle.std.specs.Char.{IsScalar, encode_utf8}
+use Rattle.std.proofs.Common.{◌≡◌, ◌⊎◌, ℕ, ◌+◌, ◌-◌, ◌*◌, ◌<◌, ◌≤◌, ◌/◌, ◌%◌, true, false, ◌==◌, nat_lt, nat_le, [], ◌∷◌, refl, ◌∙◌, ap, inl, inr, arith}
 use Rattle.sexpr_text.specs.Cut.{Cut, lead, follows, cut_step, cuts}
-use Rattle.sexpr_text.specs.Cut.Cut.{Full, Next, Broken}
+use Rattle.sexpr_text.specs.Cut.Cut.{Full, Next}
 use Rattle.sexpr_text.proofs.Utf8Ends.{below_or_past}
-use lib.Utf8.{scalar_cases}
 
 pub goes : (low high left c : ℕ) → low ≤ c → c ≤ high → cut_step (Next low high left) c ≡ follows left
 goes low high left c a b =
@@ -52,9 +49,11 @@ three c h k s = on (below_or_past c 4096) (below_or_past c 53248) (below_or_past
   where
     last : (cut : Cut) → cut ≡ Next 128 191 0 → cut_step cut (128 + c % 64) ≡ Full
     last cut e = ap (λ x. cut_step x (128 + c % 64)) e ∙ goes 128 191 0 (128 + c % 64) (omega arith) (omega arith)
+
     via : (low high : ℕ) → lead (224 + c / 4096) ≡ Next low high 1 → low ≤ 128 + c / 64 % 64 → 128 + c / 64 % 64 ≤ high
         → cut_step (cut_step (lead (224 + c / 4096)) (128 + c / 64 % 64)) (128 + c % 64) ≡ Full
     via low high e a b = last (cut_step (lead (224 + c / 4096)) (128 + c / 64 % 64)) (ap (λ x. cut_step x (128 + c / 64 % 64)) e ∙ goes low high 1 (128 + c / 64 % 64) a b)
+
     on : (c < 4096) ⊎ (4096 ≤ c) → (c < 53248) ⊎ (53248 ≤ c) → (c < 57344) ⊎ (57344 ≤ c)
         → cut_step (cut_step (lead (224 + c / 4096)) (128 + c / 64 % 64)) (128 + c % 64) ≡ Full
     on (inl a) b d = via 160 191 (let e : 224 + c / 4096 ≡ 224 = omega arith in rw e refl) (omega arith) (omega arith)
@@ -69,4 +68,4 @@ three_back x y z a b n d e f g =
     ((x - 224) * 4096 + (y - 128) * 64 + (z - 128), omega arith, omega arith, side, omega arith, omega arith, omega arith)
   where
     side : ((x - 224) * 4096 + (y - 128) * 64 + (z - 128) < 55296) ⊎ (57344 ≤ (x - 224) * 4096 + (y - 128) * 64 + (z - 128))
-    side = elim (below_or_past x 237) [ | inl less ↦ inl (omega arith) | inr past ↦ inr (let m : x ≡ 237 → ⊥ = n in omega arith) ]
+    side = elim (below_or_past x 237) [ inl less ↦ inl (omega arith) | inr past ↦ inr (let m : x ≡ 237 → ⊥ = n in omega arith) ]

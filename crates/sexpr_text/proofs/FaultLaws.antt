@@ -1,15 +1,14 @@
 -- Laws of places and kinds.
-use Rattle.std.proofs.Common.{◌≡◌, ◌⊎◌, ℕ, zero, suc, ◌+◌, ◌-◌, ◌<◌, ◌≤◌, Bool, true, false, ◌==◌, cond, nat_lt, List, [], ◌∷◌, ◌++◌, length, slice_index, take, drop, refl, sym, ◌∙◌, ap, subst, inl, inr, arith, append_assoc, length-append, Option, Some, None, slice_get}
+use Rattle.std.proofs.Common.{◌≡◌, ◌⊎◌, ℕ, zero, suc, ◌+◌, ◌<◌, ◌≤◌, Bool, true, false, ◌==◌, cond, List, [], ◌++◌, length, slice_index, take, drop, refl, sym, ◌∙◌, ap, subst, inl, inr, arith, append_assoc, Some, slice_get}
 use Rattle.std.proofs.lemmas.Option.{slice_get-get_or, slice_get_past}
-use Rattle.std.proofs.lemmas.List.{length-take-le, append-nil, take-append-drop, take-take, take_all}
-use Rattle.std.specs.Str.{IsUtf8}
+use Rattle.std.proofs.lemmas.List.{append-nil, take-append-drop, take-take, take_all}
 use Rattle.sexpr_text.specs.Grammar.{Forest, Spelt, is_space}
-use Rattle.sexpr_text.specs.Spot.{Spot, step, spot, opened, closed}
+use Rattle.sexpr_text.specs.Spot.{Spot, step, spot, closed}
 use Rattle.sexpr_text.specs.Spot.Spot.{Before, Inside, Quoted, Behind, Lost}
-use Rattle.sexpr_text.specs.Faults.{IsFront, IsUtf8Front, IsPlace, IsFault, first_row, where_in}
+use Rattle.sexpr_text.specs.Faults.{IsFront, IsUtf8Front, IsPlace, IsFault, first_row}
 use Rattle.sexpr_text.specs.Seen.{refused}
 use Rattle.sexpr_text.specs.declared.error.TextKind.{TextKind}
-use Rattle.sexpr_text.specs.declared.error.TextKind.TheVariants.{Empty, BadString, Unclosed, StrayClose, NotList, After, TooDeep, BadUtf8}
+use Rattle.sexpr_text.specs.declared.error.TextKind.TheVariants.{StrayClose, NotList, After, TooDeep, BadUtf8}
 use Rattle.sexpr_text.proofs.Spots.{next}
 use Rattle.sexpr_text.proofs.Utf8Ends.{below_or_past}
 use Rattle.sexpr_text.proofs.Fronts.{front_alive, front_made, front_utf8}
@@ -113,9 +112,9 @@ bad_utf8 bytes at f u =
       | inl less ↦
           let e : slice_get bytes at ≡ Some (slice_index bytes at) = slice_get-get_or bytes at 0 less in
           let k : Some (refused (spot bytes at) (slice_index bytes at)) ≡ Some BadUtf8 =
-              sym (row_refused (spot bytes at) (slice_index bytes at) (front_alive bytes at f.place.front)) ∙ ap (first_row (where_of (spot bytes at))) (sym e) ∙ kind_there bytes at BadUtf8 f in
+          sym (row_refused (spot bytes at) (slice_index bytes at) (front_alive bytes at f.place.front)) ∙ ap (first_row (where_of (spot bytes at))) (sym e) ∙ kind_there bytes at BadUtf8 f in
           let d : refused (spot bytes at) (slice_index bytes at) ≡ BadUtf8 = cc in
           f.place.longest (front_made bytes (at + 1) (omega arith) u
-              (λ q. may_stand (spot bytes at) (slice_index bytes at) (front_alive bytes at f.place.front) d (sym (next bytes at (at + 1) refl) ∙ q)))
+          (λ q. may_stand (spot bytes at) (slice_index bytes at) (front_alive bytes at f.place.front) d (sym (next bytes at (at + 1) refl) ∙ q)))
       | inr past ↦ ends_utf8 (spot bytes at) (ap (first_row (where_of (spot bytes at))) (sym (slice_get_past bytes at past)) ∙ kind_there bytes at BadUtf8 f)
     ]

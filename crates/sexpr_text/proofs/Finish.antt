@@ -1,5 +1,5 @@
 -- Each spot that isn't lost can be finished.
-use Rattle.std.proofs.Common.{◌≡◌, ◌⊎◌, ℕ, zero, suc, ◌+◌, ◌-◌, ◌<◌, ◌≤◌, Bool, true, false, ◌==◌, cond, List, [], ◌∷◌, ◌++◌, length, slice_index, take, drop, refl, sym, ◌∙◌, ap, subst, inl, inr, arith, add-one, append_assoc, length-append}
+use Rattle.std.proofs.Common.{◌≡◌, ℕ, zero, suc, ◌+◌, ◌-◌, ◌≤◌, Bool, true, false, ◌==◌, cond, List, [], ◌∷◌, ◌++◌, length, slice_index, take, drop, refl, sym, ◌∙◌, ap, arith, append_assoc, length-append}
 use Rattle.std.proofs.lemmas.List.{get_or_append_left, get_or-append_right, append-nil, take-append-drop, length-take-le}
 use Rattle.sexpr_text.specs.Grammar.{is_space}
 use Rattle.sexpr_text.specs.Spot.{Spot, step, spot, opened, closed}
@@ -30,7 +30,7 @@ spot_run (c ∷ cs) bs =
     let l : length (bs ++ c ∷ []) ≡ length bs + 1 = length-append bs (c ∷ []) in
     let i : slice_index (bs ++ c ∷ []) (length bs) ≡ c = get_or-append_right bs (c ∷ []) (length bs) (length bs) 0 refl (omega arith) ∙ (let z : length bs - length bs ≡ 0 = omega arith in rw z refl) in
     let s : spot (bs ++ c ∷ []) (length (bs ++ c ∷ [])) ≡ step (spot bs (length bs)) c =
-        next (bs ++ c ∷ []) (length bs) (length (bs ++ c ∷ [])) l ∙ ap (λ s. step s (slice_index (bs ++ c ∷ []) (length bs))) (spot_local bs (c ∷ []) (length bs) (omega arith)) ∙ ap (step (spot bs (length bs))) i in
+    next (bs ++ c ∷ []) (length bs) (length (bs ++ c ∷ [])) l ∙ ap (λ s. step s (slice_index (bs ++ c ∷ []) (length bs))) (spot_local bs (c ∷ []) (length bs) (omega arith)) ∙ ap (step (spot bs (length bs))) i in
     ap (λ b. spot b (length b)) e ∙ spot_run cs (bs ++ c ∷ []) ∙ ap (λ s. run s cs) s
 
 -- the lists that are open are closed
@@ -109,14 +109,19 @@ high_step s c h = on s
   where
     a : (c == 40) ≡ false
     a = grind (arith, h)
+
     b : (c == 41) ≡ false
     b = grind (arith, h)
+
     d : (c == 34) ≡ false
     d = grind (arith, h)
+
     e : (c == 92) ≡ false
     e = grind (arith, h)
+
     f : is_space c ≡ false
     f = grind (arith, h)
+
     on : (s : Spot) → step s c ≡ high s
     on Before = rw (f, a) refl
     on (Inside room) = rw (a, b, d) refl

@@ -1,10 +1,10 @@
 -- The fronts of texts, by their spot.
-use Rattle.std.proofs.Common.{◌≡◌, ◌⊎◌, ℕ, zero, suc, ◌+◌, ◌-◌, ◌<◌, ◌≤◌, Bool, true, false, ◌==◌, cond, List, [], ◌∷◌, ◌++◌, length, slice_index, take, drop, refl, sym, ◌∙◌, ap, subst, inl, inr, arith, append_assoc, length-append}
-use Rattle.std.proofs.lemmas.List.{length-take-le, append-nil, get_or-take}
+use Rattle.std.proofs.Common.{◌≡◌, ℕ, zero, suc, ◌+◌, ◌-◌, ◌<◌, ◌≤◌, true, false, List, [], ◌∷◌, ◌++◌, length, slice_index, take, refl, sym, ◌∙◌, ap, subst, inl, inr, arith, append_assoc, length-append}
+use Rattle.std.proofs.lemmas.List.{length-take-le, append-nil}
 use Rattle.std.proofs.lemmas.Str.{IsUtf8-append, IsUtf8-from_ascii}
 use Rattle.std.specs.Str.{IsUtf8, IsAscii}
-use Rattle.sexpr_text.specs.Grammar.{Forest, Spelt, is_space}
-use Rattle.sexpr_text.specs.Spot.{Spot, step, spot, opened, closed}
+use Rattle.sexpr_text.specs.Grammar.{Forest, Spelt}
+use Rattle.sexpr_text.specs.Spot.{Spot, step, spot}
 use Rattle.sexpr_text.specs.Spot.Spot.{Before, Inside, Quoted, Behind, Lost}
 use Rattle.sexpr_text.specs.Faults.{IsFront, IsUtf8Front}
 use Rattle.sexpr_text.proofs.Spots.{spelt_behind, next}
@@ -53,7 +53,7 @@ shut_high Behind h = h
 shut_high Lost h = h
 
 shut_low : (s : Spot) (c : ℕ) → Shut (step s c) → c < 128
-shut_low s c h = elim (below_or_past c 128) [ | inl less ↦ less | inr past ↦ absurd (shut_high s (subst Shut (high_step s c past) h)) ]
+shut_low s c h = elim (below_or_past c 128) [ inl less ↦ less | inr past ↦ absurd (shut_high s (subst Shut (high_step s c past) h)) ]
 
 -- bytes whose spot is alive, and that end as they end, can be finished
 pub record Finished (bs : List ℕ) : Type 0 where
@@ -73,16 +73,19 @@ alive_front bs e h = on (spot bs (length bs)) refl
   where
     plain : e.cont ≡ [] → Finished bs
     plain z = ended bs (subst IsUtf8 (ap (λ c. bs ++ c) z ∙ append-nil bs) e.utf8) h
+
     shut : (n : ℕ) → length bs ≡ n → Shut (spot bs (length bs)) → e.cont ≡ []
     shut zero z s = e.empty z
     shut (suc n) z s =
         let k : length bs ≡ n + 1 = omega (arith, z) in
         e.whole n k (shut_low (spot bs n) (slice_index bs n) (subst Shut (next bs n (length bs) k) s))
+
     more : Open (spot bs (length bs)) → Finished bs
     more o =
         let r : (run (spot bs (length bs)) e.cont ≡ Lost → ⊥) × Low (run (spot bs (length bs)) e.cont) = highs_run e.cont (spot bs (length bs)) e.highs o (low bs (length bs)) in
         let t : Finished (bs ++ e.cont) = ended (bs ++ e.cont) e.utf8 (λ q. r.0 (sym (spot_run e.cont bs) ∙ q)) in
         record { more = e.cont ++ t.more; tree = t.tree; spelt = subst (λ b. Spelt b t.tree) (append_assoc bs e.cont t.more) t.spelt }
+
     on : (s : Spot) → spot bs (length bs) ≡ s → Finished bs
     on Before q = plain (shut (length bs) refl (subst Shut (sym q) tt))
     on (Inside room) q = more (subst Open (sym q) tt)
@@ -108,6 +111,7 @@ behind_tree bs (more, u) q = behind_spelt bs (subst IsUtf8 (ap (λ c. bs ++ c) (
   where
     e : Ending bs
     e = ending u.0 bs more u.1.0 u.1.1
+
     shut : (n : ℕ) → length bs ≡ n → e.cont ≡ []
     shut zero z = e.empty z
     shut (suc n) z =

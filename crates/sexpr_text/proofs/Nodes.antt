@@ -1,18 +1,16 @@
 -- The nodes of items.
-use Rattle.std.proofs.Common.{◌≡◌, ◌⊎◌, ℕ, zero, suc, ◌+◌, ◌-◌, ◌<◌, ◌≤◌, List, [], ◌∷◌, ◌++◌, length, refl, sym, ◌∙◌, ap, subst, inl, inr, arith, append_assoc, length-append, Option, Some, None, slice_get, IfSome}
+use Rattle.std.proofs.Common.{◌≡◌, ℕ, zero, suc, ◌+◌, ◌-◌, ◌<◌, ◌≤◌, List, [], ◌∷◌, ◌++◌, length, refl, sym, ◌∙◌, ap, subst, inl, inr, arith, append_assoc, length-append, Some, slice_get, IfSome}
 use Rattle.std.proofs.lemmas.Option.{slice_get_within}
 use Rattle.std.proofs.lemmas.List.{append-nil}
-use Rattle.sexpr_text.specs.Grammar.{Forest, Items, IsWhite, IsBracket, Spelt}
+use Rattle.sexpr_text.specs.Grammar.{Forest, Items}
 use Rattle.sexpr_text.specs.Grammar.Forest.{Nil, Word, Text, Group}
-use Rattle.sexpr_text.specs.Items.{Item, IsLeafKind, IsLeaf, alone, forest_of, items_of, children_of}
+use Rattle.sexpr_text.specs.Items.{Item, IsLeafKind, alone, forest_of, items_of, children_of}
 use Rattle.sexpr_text.specs.Flat.{Shown, count, numbers, flat, IsNode, AreNodes}
 use Rattle.sexpr_text.specs.Trees.{IsRoot, IsTreeAt, IsTreeOf, IsSpeltAt, AreInOrder}
 use Rattle.sexpr_text.specs.declared.NodeKind.{NodeKind}
 use Rattle.sexpr_text.specs.declared.NodeKind.TheVariants as kinds
 use Rattle.sexpr_text.proofs.Steps.{node, length-flat, white_at}
-use Rattle.sexpr_text.proofs.Local.{items_order}
-use Rattle.sexpr_text.proofs.Unique.{compared, one_reading}
-use Rattle.sexpr_text.proofs.Whole.{text_stops, one_tree}
+use Rattle.sexpr_text.proofs.Unique.{compared}
 
 get_mid : (xs ys : List Shown) (x : Shown) (n : ℕ) → length xs ≡ n → slice_get (xs ++ x ∷ ys) n ≡ Some x
 get_mid [] ys x zero e = refl
@@ -40,15 +38,15 @@ split_at : (nodes : List Shown) (id : ℕ) (item : Item) (h : IsNode nodes id it
 split_at nodes id item h =
     let n : ℕ = length h.before in
     h.whole ∙ ap (λ xs. h.before ++ (xs ++ h.after)) (flat_alone n item.kind item.from item.to item.inner h.leaf)
-      ∙ ap (λ xs. h.before ++ xs) (append_assoc (flat n item.inner) (node_of n item ∷ []) h.after)
+    ∙ ap (λ xs. h.before ++ xs) (append_assoc (flat n item.inner) (node_of n item ∷ []) h.after)
 
 pub node_at : (nodes : List Shown) (id : ℕ) (item : Item) (h : IsNode nodes id item) → slice_get nodes id ≡ Some (node_of (length h.before) item)
 node_at nodes id item h =
     let n : ℕ = length h.before in
     let e : nodes ≡ (h.before ++ flat n item.inner) ++ node_of n item ∷ h.after = split_at nodes id item h ∙ sym (append_assoc h.before (flat n item.inner) (node_of n item ∷ h.after)) in
-    let l : length (h.before ++ flat n item.inner) ≡ id = 
-        length-append h.before (flat n item.inner) ∙ ap (λ m. n + m) (length-flat n item.inner)
-          ∙ (let c : count (forest_of item) ≡ count item.inner + 1 = count_alone item.kind item.from item.to item.inner h.leaf in omega (arith, h.last)) in
+    let l : length (h.before ++ flat n item.inner) ≡ id =
+    length-append h.before (flat n item.inner) ∙ ap (λ m. n + m) (length-flat n item.inner)
+    ∙ (let c : count (forest_of item) ≡ count item.inner + 1 = count_alone item.kind item.from item.to item.inner h.leaf in omega (arith, h.last)) in
     ap (λ ns. slice_get ns id) e ∙ get_mid (h.before ++ flat n item.inner) h.after (node_of n item) id l
 
 pub node_below : (nodes : List Shown) (id : ℕ) (item : Item) → IsNode nodes id item → id < length nodes
@@ -81,8 +79,8 @@ inner_lies nodes n from to inner rest h = record { before = h.before; after = no
 rest_lies : (nodes : List Shown) (n from to : ℕ) (inner rest : Forest) → Lies nodes n (Group from to inner rest) → Lies nodes (n + count inner + 1) rest
 rest_lies nodes n from to inner rest h =
     leaf_lies nodes (n + count inner) (node kinds.List from to (numbers n inner)) rest (h.before ++ flat n inner) h.after
-      (group_cut nodes n from to inner rest h ∙ sym (append_assoc h.before (flat n inner) (node kinds.List from to (numbers n inner) ∷ (flat (n + count inner + 1) rest ++ h.after))))
-      (length-append h.before (flat n inner) ∙ omega (arith, h.start, length-flat n inner))
+    (group_cut nodes n from to inner rest h ∙ sym (append_assoc h.before (flat n inner) (node kinds.List from to (numbers n inner) ∷ (flat (n + count inner + 1) rest ++ h.after))))
+    (length-append h.before (flat n inner) ∙ omega (arith, h.start, length-flat n inner))
 
 abbrev pub list_item : ℕ → ℕ → Forest → Item
 list_item from to inner = record { kind = kinds.List; from = from; to = to; inner = inner }
@@ -165,7 +163,7 @@ same_items nodes (id ∷ ids) (Group p q inner rest) (Group p' q' inner' rest') 
     let to : q ≡ q' = ap (λ n. n.to) e in
     let same_numbers : numbers (length a.0.before) inner ≡ numbers (length b.0.before) inner' = ap (λ n. n.children) e in
     let below : inner ≡ inner' = same_items nodes (numbers (length a.0.before) inner) inner inner' (children_nodes nodes id (list_item p q inner) a.0)
-        (subst (λ xs. AreNodes nodes xs (items_of inner')) (sym same_numbers) (children_nodes nodes id (list_item p' q' inner') b.0)) in
+    (subst (λ xs. AreNodes nodes xs (items_of inner')) (sym same_numbers) (children_nodes nodes id (list_item p' q' inner') b.0)) in
     let ih : rest ≡ rest' = same_items nodes ids rest rest' a.1 b.1 in
     cc
 same_items nodes (id ∷ ids) f g a b =
@@ -176,7 +174,7 @@ same_item nodes id item other a b =
     let e = same_node nodes id item other a b in
     let n : numbers (length a.before) item.inner ≡ numbers (length b.before) other.inner = ap (λ n. n.children) e in
     let i : item.inner ≡ other.inner = same_items nodes (numbers (length a.before) item.inner) item.inner other.inner (children_nodes nodes id item a)
-        (subst (λ xs. AreNodes nodes xs (items_of other.inner)) (sym n) (children_nodes nodes id other b)) in
+    (subst (λ xs. AreNodes nodes xs (items_of other.inner)) (sym n) (children_nodes nodes id other b)) in
     ap (λ n. made n.kind n.from n.to item.inner) e ∙ ap (λ x. made other.kind other.from other.to x) i
   where
     made : NodeKind → ℕ → ℕ → Forest → Item
@@ -193,46 +191,46 @@ found_in bytes nodes room at end n Nil r i h id low high = absurd (omega arith)
 found_in bytes nodes room at end n (Word from to rest) r i h id low high =
     elim (compared n id) [
       | inl same ↦ record {
-          item = leaf_item kinds.Word from to;
-          is_node = subst (λ m. IsNode nodes m (leaf_item kinds.Word from to)) same (word_node nodes n from to rest h);
-          is_spelt = record {
-            room = room;
-            shallow = r;
-            spelt = (white_at bytes from (omega (arith, i.1.order, i.1.within)), i.1, white_at bytes to i.1.within);
-            order = i.1.order;
-            within = i.1.within;
-          };
-        }
+        item = leaf_item kinds.Word from to;
+        is_node = subst (λ m. IsNode nodes m (leaf_item kinds.Word from to)) same (word_node nodes n from to rest h);
+        is_spelt = record {
+          room = room;
+          shallow = r;
+          spelt = (white_at bytes from (omega (arith, i.1.order, i.1.within)), i.1, white_at bytes to i.1.within);
+          order = i.1.order;
+          within = i.1.within;
+        };
+      }
       | inr other ↦ found_in bytes nodes room to end (n + 1) rest r i.2 (leaf_lies nodes n _ rest h.before h.after h.whole h.start) id (omega (arith, other)) (omega arith)
     ]
 found_in bytes nodes room at end n (Text from to rest) r i h id low high =
     elim (compared n id) [
       | inl same ↦ record {
-          item = leaf_item kinds.Text from to;
-          is_node = subst (λ m. IsNode nodes m (leaf_item kinds.Text from to)) same (text_node nodes n from to rest h);
-          is_spelt = record {
-            room = room;
-            shallow = r;
-            spelt = (white_at bytes from (omega (arith, i.1.order, i.1.within)), i.1, white_at bytes to i.1.within);
-            order = omega (arith, i.1.order);
-            within = i.1.within;
-          };
-        }
+        item = leaf_item kinds.Text from to;
+        is_node = subst (λ m. IsNode nodes m (leaf_item kinds.Text from to)) same (text_node nodes n from to rest h);
+        is_spelt = record {
+          room = room;
+          shallow = r;
+          spelt = (white_at bytes from (omega (arith, i.1.order, i.1.within)), i.1, white_at bytes to i.1.within);
+          order = omega (arith, i.1.order);
+          within = i.1.within;
+        };
+      }
       | inr other ↦ found_in bytes nodes room to end (n + 1) rest r i.2 (leaf_lies nodes n _ rest h.before h.after h.whole h.start) id (omega (arith, other)) (omega arith)
     ]
 found_in bytes nodes room at end n (Group from to inner rest) r i h id low high =
     elim (compared (n + count inner) id) [
       | inl same ↦ record {
-          item = list_item from to inner;
-          is_node = subst (λ m. IsNode nodes m (list_item from to inner)) same (group_node nodes n from to inner rest h);
-          is_spelt = record {
-            room = room;
-            shallow = r;
-            spelt = (white_at bytes from (omega (arith, i.1.order, i.1.within)), i.1, i.2, white_at bytes to i.1.within);
-            order = omega (arith, i.1.order);
-            within = i.1.within;
-          };
-        }
+        item = list_item from to inner;
+        is_node = subst (λ m. IsNode nodes m (list_item from to inner)) same (group_node nodes n from to inner rest h);
+        is_spelt = record {
+          room = room;
+          shallow = r;
+          spelt = (white_at bytes from (omega (arith, i.1.order, i.1.within)), i.1, i.2, white_at bytes to i.1.within);
+          order = omega (arith, i.1.order);
+          within = i.1.within;
+        };
+      }
       | inr (inl less) ↦ found_in bytes nodes room to end (n + count inner + 1) rest r i.3 (rest_lies nodes n from to inner rest h) id (omega arith) (omega arith)
       | inr (inr more) ↦ found_in bytes nodes (room - 1) (from + 1) (to - 1) n inner (omega arith) i.2 (inner_lies nodes n from to inner rest h) id low (omega arith)
     ]
@@ -247,7 +245,7 @@ found bytes nodes id t h =
     let e : nodes ≡ flat 0 g = t.is_tree.same ∙ ap (flat 0) (root_forest bytes root t.is_tree.is_root) in
     let l : length nodes ≡ count g = ap length e ∙ length-flat 0 g in
     found_in bytes nodes 64 0 (length bytes) 0 g (omega arith) t.is_tree.is_root.spelt.items
-      (record { before = []; after = []; whole = e ∙ sym (append-nil (flat 0 g)); start = refl }) id (omega arith) (omega arith)
+    (record { before = []; after = []; whole = e ∙ sym (append-nil (flat 0 g)); start = refl }) id (omega arith) (omega arith)
 
 pub spelt_item : (bytes : List ℕ) (nodes : List Shown) (id : ℕ) (item : Item) → IsTreeOf bytes nodes → IsNode nodes id item → IsSpeltAt bytes item
 spelt_item bytes nodes id item t h =

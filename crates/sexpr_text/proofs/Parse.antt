@@ -1,6 +1,6 @@
 -- Bytes that lead behind a list spell a tree.
-use Rattle.std.proofs.Common.{◌≡◌, ◌⊎◌, ℕ, zero, suc, ◌+◌, ◌-◌, ◌<◌, ◌≤◌, Bool, true, false, ◌&&◌, ◌||◌, not, ◌==◌, cond, nat_lt, List, length, slice_index, refl, sym, ◌∙◌, ap, subst, inl, inr, arith, add-one, eq-eqb}
-use Rattle.sexpr_text.specs.Grammar.{Forest, Items, Spelt, Between, IsWhite, IsWord, IsString, IsBracket, IsOneList, is_space, is_word, is_escaped}
+use Rattle.std.proofs.Common.{◌≡◌, ◌⊎◌, ℕ, zero, suc, ◌+◌, ◌-◌, ◌<◌, ◌≤◌, Bool, true, false, ◌==◌, List, length, slice_index, refl, sym, ◌∙◌, ap, subst, inl, inr, arith, eq-eqb}
+use Rattle.sexpr_text.specs.Grammar.{Forest, Items, Spelt, IsWhite, is_space, is_word, is_escaped}
 use Rattle.sexpr_text.specs.Grammar.Forest.{Nil, Word, Text, Group}
 use Rattle.sexpr_text.proofs.Steps.{white_at, white_joined, widened}
 use Rattle.sexpr_text.proofs.Unique.{compared, word_solid}
@@ -83,39 +83,45 @@ quoted_step bytes n io qo k inside m outer room p e r s = on (is_escaped bytes i
   where
     at : inside + m ≡ k
     at = omega arith
+
     -- the byte is passed over
     pass : (next : Bool) → is_escaped bytes inside (m + 1) ≡ next → spot bytes (k + 1) ≡ Quoted room next
         → (slice_index bytes (inside + m) ≡ 34 → is_escaped bytes inside m ≡ true) → (c : Closes bytes inside m) × Rest bytes outer room (inside + c.last + 1)
     pass next f g h =
         let t : (c : Closes bytes inside (m + 1)) × Rest bytes outer room (inside + c.last + 1) =
-            qo (k + 1) inside (m + 1) outer room (omega arith) (omega arith) r (g ∙ ap (Quoted room) (sym f)) in
-        (record {
-          last = t.0.last;
-          order = omega (arith, t.0.order);
-          within = t.0.within;
-          closing = t.0.closing;
-          ends = t.0.ends;
-          first = λ j low high quote. elim (split j) [
-            | inl same ↦ let u : slice_index bytes (inside + m) ≡ 34 = subst (λ x. slice_index bytes (inside + x) ≡ 34) same quote in rw same (h u)
-            | inr more ↦ t.0.first j (omega arith) high quote
-          ];
-        }, t.1)
+        qo (k + 1) inside (m + 1) outer room (omega arith) (omega arith) r (g ∙ ap (Quoted room) (sym f)) in (
+          record {
+            last = t.0.last;
+            order = omega (arith, t.0.order);
+            within = t.0.within;
+            closing = t.0.closing;
+            ends = t.0.ends;
+            first = λ j low high quote. elim (split j) [
+              | inl same ↦ let u : slice_index bytes (inside + m) ≡ 34 = subst (λ x. slice_index bytes (inside + x) ≡ 34) same quote in rw same (h u)
+              | inr more ↦ t.0.first j (omega arith) high quote
+            ];
+          },
+          t.1,
+        )
       where
         split : (j : ℕ) → (j ≡ m) ⊎ ((j < m) ⊎ (m < j))
         split j = compared j m
+
     on : (b : Bool) → is_escaped bytes inside m ≡ b → (c : Bool) → (slice_index bytes k == 34) ≡ c → (c : Closes bytes inside m) × Rest bytes outer room (inside + c.last + 1)
     on true q c w = pass false (is_escaped-next bytes inside m (m + 1) refl ∙ rw q refl) (after bytes k (Quoted room true) (Quoted room false) (s ∙ ap (Quoted room) q) refl) (λ h. q)
     on false q true w =
         let quote : slice_index bytes k ≡ 34 = grind arith in
-        let t : Rest bytes outer room (k + 1) = io (k + 1) outer room (omega arith) r (after bytes k (Quoted room false) (Inside room) (s ∙ ap (Quoted room) q) (rw quote refl)) in
-        (record {
-          last = m;
-          order = omega arith;
-          within = omega arith;
-          closing = rw at quote;
-          ends = q;
-          first = λ j low high h. absurd (omega arith);
-        }, subst (λ x. Rest bytes outer room (x + 1)) (sym at) t)
+        let t : Rest bytes outer room (k + 1) = io (k + 1) outer room (omega arith) r (after bytes k (Quoted room false) (Inside room) (s ∙ ap (Quoted room) q) (rw quote refl)) in (
+          record {
+            last = m;
+            order = omega arith;
+            within = omega arith;
+            closing = rw at quote;
+            ends = q;
+            first = λ j low high h. absurd (omega arith);
+          },
+          subst (λ x. Rest bytes outer room (x + 1)) (sym at) t,
+        )
     on false q false w = pass (slice_index bytes k == 92) (is_escaped-next bytes inside m (m + 1) refl ∙ rw (q, at) refl)
         (after bytes k (Quoted room false) (Quoted room (slice_index bytes k == 92)) (s ∙ ap (Quoted room) q) (rw w refl))
         (λ h. let u : slice_index bytes k ≡ 34 = subst (λ x. slice_index bytes x ≡ 34) at h in let v : (slice_index bytes k == 34) ≡ true = eq-eqb (slice_index bytes k) 34 u in let x : false ≡ true = sym w ∙ v in absurd cc)
@@ -123,12 +129,19 @@ quoted_step bytes n io qo k inside m outer room p e r s = on (is_escaped bytes i
 -- a word's byte before items
 pub alone : (bytes : List ℕ) (room k end : ℕ) (f : Forest) → k < length bytes → is_word (slice_index bytes k) ≡ true → (k + 1 < length bytes → is_word (slice_index bytes (k + 1)) ≡ false)
     → Items bytes room (k + 1) end f → (g : Forest) × Items bytes room k end g
-alone bytes room k end f h w l i = (Word k (k + 1) f, (white_at bytes k (omega arith), record {
-  order = omega arith;
-  within = omega arith;
-  each = λ j low high. let e : j ≡ k = omega arith in rw e w;
-  longest = l;
-}, i))
+alone bytes room k end f h w l i = (
+  Word k (k + 1) f,
+  (
+    white_at bytes k (omega arith),
+    record {
+      order = omega arith;
+      within = omega arith;
+      each = λ j low high. let e : j ≡ k = omega arith in rw e w;
+      longest = l;
+    },
+    i,
+  ),
+)
 
 pub no_white : (bytes : List ℕ) (k p : ℕ) → is_word (slice_index bytes k) ≡ true → IsWhite bytes k p → k ≡ p
 no_white bytes k p h w =
@@ -151,16 +164,22 @@ pub joined : (bytes : List ℕ) (room k end : ℕ) (f : Forest) → k < length b
     → slice_index bytes end ≡ 41 → Items bytes room (k + 1) end f → (g : Forest) × Items bytes room k end g
 joined bytes room k end Nil h w v c i = absurd (no_word bytes (k + 1) end 41 v i c refl)
 joined bytes room k end (Word from to rest) h w v c i =
-    let same : k + 1 ≡ from = no_white bytes (k + 1) from v i.0 in
-    (Word k to rest, (white_at bytes k (omega arith), record {
-      order = omega (arith, i.1.order);
-      within = i.1.within;
-      each = λ j low high. elim (compared j k) [
-        | inl e ↦ rw e w
-        | inr other ↦ i.1.each j (omega arith) high
-      ];
-      longest = i.1.longest;
-    }, i.2))
+    let same : k + 1 ≡ from = no_white bytes (k + 1) from v i.0 in (
+      Word k to rest,
+      (
+        white_at bytes k (omega arith),
+        record {
+          order = omega (arith, i.1.order);
+          within = i.1.within;
+          each = λ j low high. elim (compared j k) [
+            | inl e ↦ rw e w
+            | inr other ↦ i.1.each j (omega arith) high
+          ];
+          longest = i.1.longest;
+        },
+        i.2,
+      ),
+    )
 joined bytes room k end (Text from to rest) h w v c i = absurd (no_word bytes (k + 1) from 34 v i.0 i.1.opening refl)
 joined bytes room k end (Group from to inner rest) h w v c i = absurd (no_word bytes (k + 1) from 40 v i.0 i.1.opening refl)
 
@@ -174,29 +193,42 @@ add_word bytes room k end f h w c i = on (is_word (slice_index bytes (k + 1))) r
 
 -- a list before items
 pub add_group : (bytes : List ℕ) (outer room k : ℕ) → k < length bytes → slice_index bytes k ≡ 40 → (u : Upto bytes room (k + 1)) → Rest bytes outer (room + 1) (u.end + 1) → k + 1 ≤ u.end → Rest bytes outer (room + 1) k
-add_group bytes outer room k h c u r o = mapped bytes outer (room + 1) (u.end + 1) k (λ end f low closing i.
-    (Group k (u.end + 1) u.tree f, (white_at bytes k (omega arith), record {
+add_group bytes outer room k h c u r o = mapped bytes outer (room + 1) (u.end + 1) k (λ end f low closing i. (
+  Group k (u.end + 1) u.tree f,
+  (
+    white_at bytes k (omega arith),
+    record {
       opening = c;
       order = omega arith;
       within = omega (arith, u.within);
       closing = let e : u.end + 1 - 1 ≡ u.end = omega arith in rw e u.closing;
       deep = omega arith;
-    }, let e : u.end ≡ u.end + 1 - 1 = omega arith in let d : room ≡ room + 1 - 1 = omega arith in
-       subst (λ x. Items bytes x (k + 1) (u.end + 1 - 1) u.tree) d (subst (λ x. Items bytes room (k + 1) x u.tree) e u.items), i))) r
+    },
+    let e : u.end ≡ u.end + 1 - 1 = omega arith in let d : room ≡ room + 1 - 1 = omega arith in
+        subst (λ x. Items bytes x (k + 1) (u.end + 1 - 1) u.tree) d (subst (λ x. Items bytes room (k + 1) x u.tree) e u.items),
+    i,
+  ),
+)) r
 
 -- a string before items
 pub add_string : (bytes : List ℕ) (outer room k : ℕ) → k < length bytes → slice_index bytes k ≡ 34 → (c : Closes bytes (k + 1) 0) → Rest bytes outer room (k + 1 + c.last + 1) → Rest bytes outer room k
 add_string bytes outer room k h q c r = mapped bytes outer room (k + 1 + c.last + 1) k (λ end f low closing i.
     let e : k + 1 + c.last + 1 - 1 ≡ k + 1 + c.last = omega arith in
-    let d : k + 1 + c.last + 1 - 1 - (k + 1) ≡ c.last = omega arith in
-    (Text k (k + 1 + c.last + 1) f, (white_at bytes k (omega arith), record {
-      opening = q;
-      order = omega arith;
-      within = omega (arith, c.within);
-      closing = rw e c.closing;
-      ends = rw d c.ends;
-      first = λ j less quote. c.first j (omega arith) (omega arith) quote;
-    }, i))) r
+    let d : k + 1 + c.last + 1 - 1 - (k + 1) ≡ c.last = omega arith in (
+      Text k (k + 1 + c.last + 1) f,
+      (
+        white_at bytes k (omega arith),
+        record {
+          opening = q;
+          order = omega arith;
+          within = omega (arith, c.within);
+          closing = rw e c.closing;
+          ends = rw d c.ends;
+          first = λ j less quote. c.first j (omega arith) (omega arith) quote;
+        },
+        i,
+      ),
+    )) r
 
 -- an opening parenthesis
 open_step : (bytes : List ℕ) (n k outer room : ℕ) → Done bytes → InsideOk bytes n → k + suc n ≡ length bytes → room + outer ≡ 63 → slice_index bytes k ≡ 40
@@ -225,6 +257,7 @@ inside_step bytes n d io qo bo k outer room e r s =
   where
     here : (t : Spot) → step (Inside room) (slice_index bytes k) ≡ t → spot bytes (k + 1) ≡ t
     here t f = after bytes k (Inside room) t s f
+
     on : (a : Bool) → (slice_index bytes k == 40) ≡ a → (b : Bool) → (slice_index bytes k == 41) ≡ b → (c : Bool) → (slice_index bytes k == 34) ≡ c
         → (w : Bool) → is_space (slice_index bytes k) ≡ w → Rest bytes outer room k
     on true p b q c t w v = let g : slice_index bytes k ≡ 40 = grind arith in open_step bytes n k outer room d io e r g (here (opened room) (rw g refl))
@@ -235,18 +268,18 @@ inside_step bytes n d io qo bo k outer room e r s =
         add_string bytes outer room k (omega arith) g x.0 x.1
     on false p false q false t true v =
         mapped bytes outer room (k + 1) k (λ end f low closing i. (f, widened bytes room k (k + 1) end f (white_one bytes k (omega arith) v) i))
-            (io (k + 1) outer room (omega arith) r (here (Inside room) (rw (p, q, t) refl)))
+        (io (k + 1) outer room (omega arith) r (here (Inside room) (rw (p, q, t) refl)))
     on false p false q false t false v =
         let word : is_word (slice_index bytes k) ≡ true = rw (v, p, q, t) refl in
         mapped bytes outer room (k + 1) k (λ end f low closing i. add_word bytes room k end f (omega arith) word closing i)
-            (io (k + 1) outer room (omega arith) r (here (Inside room) (rw (p, q, t) refl)))
+        (io (k + 1) outer room (omega arith) r (here (Inside room) (rw (p, q, t) refl)))
 
 all_ok : (bytes : List ℕ) → Done bytes → (n : ℕ) → InsideOk bytes n × QuotedOk bytes n × BehindOk bytes n
 all_ok bytes d zero = (
-    λ k outer room e r s. let f : k ≡ length bytes = omega arith in let g : Inside room ≡ Behind = sym s ∙ rw f d in absurd cc,
-    λ k inside m outer room p e r s. let f : k ≡ length bytes = omega arith in let g : Quoted room (is_escaped bytes inside m) ≡ Behind = sym s ∙ rw f d in absurd cc,
-    λ k e s. let f : length bytes ≡ k = omega arith in rw f (white_at bytes k (omega arith)),
-  )
+  λ k outer room e r s. let f : k ≡ length bytes = omega arith in let g : Inside room ≡ Behind = sym s ∙ rw f d in absurd cc,
+  λ k inside m outer room p e r s. let f : k ≡ length bytes = omega arith in let g : Quoted room (is_escaped bytes inside m) ≡ Behind = sym s ∙ rw f d in absurd cc,
+  λ k e s. let f : length bytes ≡ k = omega arith in rw f (white_at bytes k (omega arith)),
+)
 all_ok bytes d (suc n) =
     let t : InsideOk bytes n × QuotedOk bytes n × BehindOk bytes n = all_ok bytes d n in
     (inside_step bytes n d t.0 t.1 t.2, quoted_step bytes n t.0 t.1, behind_step bytes n d t.2)
@@ -283,15 +316,22 @@ pub behind_spelt : (bytes : List ℕ) → IsUtf8 bytes → Done bytes → (tree 
 behind_spelt bytes u d =
     let t : Whole bytes 0 = whole bytes d (length bytes) 0 (omega arith) refl in
     let w : Upto bytes 63 (t.from + 1) = t.rest.0 in
-    let o : t.from + 1 ≤ w.end = items_order bytes 63 (t.from + 1) w.end w.tree w.items in
-    (Group t.from (w.end + 1) w.tree Nil, record {
-      utf8 = u;
-      list = tt;
-      items = (t.white, record {
-        opening = t.opening;
-        order = omega arith;
-        within = omega (arith, w.within);
-        closing = let e : w.end + 1 - 1 ≡ w.end = omega arith in rw e w.closing;
-        deep = omega arith;
-      }, let e : w.end ≡ w.end + 1 - 1 = omega arith in subst (λ x. Items bytes 63 (t.from + 1) x w.tree) e w.items, t.rest.1);
-    })
+    let o : t.from + 1 ≤ w.end = items_order bytes 63 (t.from + 1) w.end w.tree w.items in (
+      Group t.from (w.end + 1) w.tree Nil,
+      record {
+        utf8 = u;
+        list = tt;
+        items = (
+          t.white,
+          record {
+            opening = t.opening;
+            order = omega arith;
+            within = omega (arith, w.within);
+            closing = let e : w.end + 1 - 1 ≡ w.end = omega arith in rw e w.closing;
+            deep = omega arith;
+          },
+          let e : w.end ≡ w.end + 1 - 1 = omega arith in subst (λ x. Items bytes 63 (t.from + 1) x w.tree) e w.items,
+          t.rest.1,
+        );
+      },
+    )

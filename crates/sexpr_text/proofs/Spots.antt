@@ -1,6 +1,6 @@
 -- A text that is spelt leads behind its list.
-use Rattle.std.proofs.Common.{◌≡◌, ◌⊎◌, ℕ, zero, suc, ◌+◌, ◌-◌, ◌<◌, ◌≤◌, Bool, true, false, ◌&&◌, ◌||◌, not, ◌==◌, cond, nat_lt, List, length, slice_index, refl, sym, ◌∙◌, ap, subst, inl, inr, arith, add-one, eq-eqb}
-use Rattle.sexpr_text.specs.Grammar.{Forest, Items, Spelt, Between, IsWhite, IsWord, IsString, IsBracket, IsOneList, is_space, is_word, is_escaped}
+use Rattle.std.proofs.Common.{◌≡◌, ℕ, zero, suc, ◌+◌, ◌-◌, ◌<◌, Bool, true, false, ◌&&◌, not, ◌==◌, cond, List, length, slice_index, refl, sym, ◌∙◌, ap, arith, add-one}
+use Rattle.sexpr_text.specs.Grammar.{Forest, Items, Spelt, Between, IsWhite, IsWord, IsString, is_space, is_word, is_escaped}
 use Rattle.sexpr_text.specs.Grammar.Forest.{Nil, Word, Text, Group}
 use Rattle.sexpr_text.specs.Spot.{Spot, step, spot, opened, closed}
 use Rattle.sexpr_text.specs.Spot.Spot.{Before, Inside, Quoted, Behind, Lost}
@@ -60,13 +60,13 @@ quoted_over bytes room from to s at zero m e h = let f : m ≡ from + 1 = omega 
 quoted_over bytes room from to s at (suc k) m e h =
     let ih : spot bytes (from + 1 + k) ≡ Quoted room (is_escaped bytes (from + 1) k) = quoted_over bytes room from to s at k (from + 1 + k) refl (omega arith) in
     next bytes (from + 1 + k) m (omega arith) ∙ ap (λ t. step t (slice_index bytes (from + 1 + k))) ih
-      ∙ flag room (is_escaped bytes (from + 1) k) (slice_index bytes (from + 1 + k)) (s.first k (omega arith))
+    ∙ flag room (is_escaped bytes (from + 1) k) (slice_index bytes (from + 1 + k)) (s.first k (omega arith))
 
 pub string_over : (bytes : List ℕ) (room from to : ℕ) → IsString bytes from to → spot bytes from ≡ Inside room → spot bytes to ≡ Inside room
 string_over bytes room from to s at =
     let begun : spot bytes (from + 1) ≡ Quoted room false = next bytes from (from + 1) refl ∙ ap (λ t. step t (slice_index bytes from)) at ∙ ap (step (Inside room)) s.opening in
     let last : spot bytes (to - 1) ≡ Quoted room (is_escaped bytes (from + 1) (to - 1 - (from + 1))) =
-        quoted_over bytes room from to s begun (to - 1 - (from + 1)) (to - 1) (omega (arith, s.order)) (omega (arith, s.order)) in
+    quoted_over bytes room from to s begun (to - 1 - (from + 1)) (to - 1) (omega (arith, s.order)) (omega (arith, s.order)) in
     next bytes (to - 1) to (omega (arith, s.order)) ∙ ap (λ t. step t (slice_index bytes (to - 1))) (last ∙ ap (Quoted room) s.ends) ∙ ap (step (Quoted room false)) s.closing
 
 pub opened_some : (room : ℕ) → 0 < room → opened room ≡ Inside (room - 1)
@@ -74,7 +74,7 @@ opened_some zero h = absurd (omega arith)
 opened_some (suc room) h = let e : suc room - 1 ≡ room = omega arith in rw e refl
 
 pub closed_some : (room : ℕ) → 0 < room → room < 64 → closed (room - 1) ≡ cond (room == 64) Behind (Inside room)
-closed_some room h low = 
+closed_some room h low =
     let e : room - 1 + 1 ≡ room = omega arith in
     let f : (room - 1 == 63) ≡ false = grind arith in
     let g : (room == 64) ≡ false = grind arith in rw (e, f, g) refl
@@ -92,7 +92,7 @@ items_over bytes room at end (Group from to inner rest) low h s =
     let i : spot bytes (to - 1) ≡ Inside (room - 1) = items_over bytes (room - 1) (from + 1) (to - 1) inner (omega arith) h.2 o in
     let g : (room == 64) ≡ false = grind (arith, low) in
     let c : spot bytes to ≡ Inside room = next bytes (to - 1) to (omega (arith, h.1.order)) ∙ ap (λ t. step t (slice_index bytes (to - 1))) i ∙ ap (step (Inside (room - 1))) h.1.closing
-          ∙ closed_some room h.1.deep low ∙ rw g refl in
+    ∙ closed_some room h.1.deep low ∙ rw g refl in
     items_over bytes room to end rest low h.3 c
 
 -- a text that is spelt ends behind its list

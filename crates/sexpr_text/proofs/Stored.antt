@@ -1,5 +1,5 @@
 -- Nodes as they are kept, and as they are seen.
-use Rattle.std.proofs.Common.{◌≡◌, ℕ, zero, suc, ◌+◌, ◌-◌, ◌<◌, ◌≤◌, List, [], ◌∷◌, ◌++◌, length, take, drop, map, All, refl, sym, ◌∙◌, ap, subst, arith, length-append, get_or, Option, Some, slice_get}
+use Rattle.std.proofs.Common.{◌≡◌, ℕ, suc, ◌+◌, ◌-◌, ◌<◌, ◌≤◌, List, [], ◌∷◌, ◌++◌, length, take, drop, map, All, refl, sym, ◌∙◌, ap, arith, length-append, get_or, Some, slice_get}
 use Rattle.std.proofs.lemmas.List.{drop-append-le, take-append-le, length-drop, drop_at, take_all, length-map}
 use Rattle.std.proofs.lemmas.Option.{slice_get-map, slice_get_read}
 use Rattle.std.specs.Option.{option_map}
@@ -44,7 +44,7 @@ list_nodes old nodes nodes' numbers numbers' waiting part from to first last mar
     let s : all_shown numbers' (nodes ++ l ∷ []) ≡ all_shown numbers' nodes ++ shown numbers' l ∷ [] = map-push (shown numbers') nodes l in
     let o : all_shown numbers' nodes ≡ old.nodes = ap (λ ns. all_shown ns nodes) e ∙ shown_more numbers part nodes ranges ∙ v in
     let r : take (last - first) (drop first numbers') ≡ drop mark old.waiting =
-        ap (λ ns. take (last - first) (drop first ns)) e ∙ range_last numbers part first last a (b ∙ ap length e) ∙ p ∙ ap (drop mark) w in
+    ap (λ ns. take (last - first) (drop first ns)) e ∙ range_last numbers part first last a (b ∙ ap length e) ∙ p ∙ ap (drop mark) w in
     ap (all_shown numbers') f ∙ s ∙ ap (λ ns. ns ++ shown numbers' l ∷ []) o ∙ ap (λ c. old.nodes ++ node kind.List from to c ∷ []) r
 
 -- what is kept at a number is what is seen there

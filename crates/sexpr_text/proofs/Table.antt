@@ -1,12 +1,12 @@
 -- The kinds of the walk are those of the table.
-use Rattle.std.proofs.Common.{◌≡◌, ℕ, zero, suc, ◌+◌, ◌-◌, ◌<◌, ◌≤◌, Bool, true, false, ◌==◌, ◌&&◌, ◌||◌, not, cond, refl, sym, ◌∙◌, ap, subst, arith, Option, Some, None}
+use Rattle.std.proofs.Common.{◌≡◌, ℕ, zero, suc, ◌-◌, Bool, true, false, ◌==◌, ◌&&◌, ◌||◌, not, cond, refl, ◌∙◌, ap, arith, Some, None}
 use Rattle.sexpr_text.specs.Grammar.{is_space}
-use Rattle.sexpr_text.specs.Faults.{Where, is_row, rows, first_row}
-use Rattle.sexpr_text.specs.Spot.{Spot, step, opened, closed}
+use Rattle.sexpr_text.specs.Faults.{first_row}
+use Rattle.sexpr_text.specs.Spot.{Spot}
 use Rattle.sexpr_text.specs.Spot.Spot.{Before, Inside, Quoted, Behind, Lost}
 use Rattle.sexpr_text.specs.Seen.{refused, ended}
 use Rattle.sexpr_text.specs.declared.error.TextKind.{TextKind}
-use Rattle.sexpr_text.specs.declared.error.TextKind.TheVariants.{Empty, BadString, Unclosed, StrayClose, NotList, After, TooDeep, BadUtf8}
+use Rattle.sexpr_text.specs.declared.error.TextKind.TheVariants.{StrayClose, NotList, After, TooDeep, BadUtf8}
 use Rattle.sexpr_text.proofs.Wheres.{where_of}
 
 some_cond : (b : Bool) (k l : TextKind) → cond b (Some k) (Some l) ≡ Some (cond b k l)
@@ -16,7 +16,7 @@ some_cond false k l = refl
 pub row_refused : (s : Spot) (c : ℕ) → (s ≡ Lost → ⊥) → first_row (where_of s) (Some c) ≡ Some (refused s c)
 row_refused Before c a =
     ap (λ o. cond (c == 41) (Some StrayClose) o) (some_cond (not (is_space c || c == 40 || c == 41)) NotList BadUtf8)
-      ∙ some_cond (c == 41) StrayClose (cond (not (is_space c || c == 40 || c == 41)) NotList BadUtf8)
+    ∙ some_cond (c == 41) StrayClose (cond (not (is_space c || c == 40 || c == 41)) NotList BadUtf8)
 row_refused (Quoted room escaped) c a = refl
 row_refused (Inside zero) c a = some_cond (c == 40) TooDeep BadUtf8
 row_refused (Inside (suc room)) c a =

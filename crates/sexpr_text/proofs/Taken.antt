@@ -1,8 +1,8 @@
 -- What was read and what waits, step by step.
 use Rattle.std.proofs.Common.{◌≡◌, ℕ, ◌+◌, ◌-◌, ◌≤◌, List, [], ◌∷◌, ◌++◌, length, take, drop, refl, sym, ◌∙◌, ap, subst, arith, append_assoc, length-append}
 use Rattle.std.proofs.lemmas.List.{append-nil, drop_at, take_at}
-use Rattle.sexpr_text.specs.Grammar.{Forest, Items, IsWhite, IsWord, IsString, IsBracket}
-use Rattle.sexpr_text.specs.Flat.{Shown, flat, numbers}
+use Rattle.sexpr_text.specs.Grammar.{Items, IsWhite, IsWord, IsString, IsBracket}
+use Rattle.sexpr_text.specs.Flat.{flat, numbers}
 use Rattle.sexpr_text.specs.Built.{Built}
 use Rattle.sexpr_text.specs.Run.{Reads, Takes, TakesList}
 use Rattle.sexpr_text.specs.declared.NodeKind.TheVariants as kind

@@ -1,16 +1,16 @@
 -- What the readers of a tree tell.
-use Rattle.std.proofs.Common.{◌≡◌, ◌⊎◌, inl, inr, ℕ, zero, suc, ◌+◌, ◌-◌, ◌<◌, ◌≤◌, Bool, true, false, cond, List, [], ◌∷◌, length, drop, get_or, refl, sym, ◌∙◌, ap, subst, arith, Option, Some, None, slice_get, IfSome, drop-cons, add-one}
+use Rattle.std.proofs.Common.{◌≡◌, ◌⊎◌, inl, inr, ℕ, ◌+◌, ◌<◌, ◌≤◌, Bool, true, false, cond, List, [], ◌∷◌, length, drop, get_or, refl, sym, ◌∙◌, ap, subst, arith, Option, Some, None, slice_get, IfSome, drop-cons, add-one}
 use Rattle.std.specs.Prelude.{find}
 use Rattle.std.proofs.lemmas.List.{drop_all}
 use Rattle.sexpr_text.specs.Grammar.{Forest}
 use Rattle.sexpr_text.specs.Grammar.Forest.{Nil, Word, Text, Group}
-use Rattle.sexpr_text.specs.Items.{Item, IsLeafKind, items_of, children_of, content_at, content_of, first_word, head_of, is_name, is_headed}
+use Rattle.sexpr_text.specs.Items.{Item, IsLeafKind, items_of, children_of, content_at, content_of, first_word, head_of, is_headed}
 use Rattle.sexpr_text.specs.Flat.{Shown, IsNode, AreNodes, IsNodeOrNone}
 use Rattle.sexpr_text.specs.Trees.{IsTreeOf}
 use Rattle.sexpr_text.specs.declared.NodeKind.{NodeKind}
 use Rattle.sexpr_text.specs.declared.NodeKind.TheVariants as kinds
 use Rattle.sexpr_text.specs.declared.Span.{Span}
-use Rattle.sexpr_text.proofs.Nodes.{node_at, node_of, told, kind_told, span_told, Found, found, IsWithin, places, leaf_item, list_item}
+use Rattle.sexpr_text.proofs.Nodes.{node_at, node_of, told, Found, found, IsWithin, places, leaf_item, list_item}
 
 -- a node below the number of nodes, as it is seen
 record There (bytes : List ℕ) (nodes : List Shown) (id : ℕ) : Type 0 where

@@ -1,5 +1,5 @@
 -- How a front of UTF-8 goes on.
-use Rattle.std.proofs.Common.{◌≡◌, ◌⊎◌, ℕ, zero, suc, ◌+◌, ◌-◌, ◌<◌, ◌≤◌, ◌/◌, ◌%◌, Bool, true, false, ◌&&◌, ◌==◌, cond, nat_lt, List, [], ◌∷◌, ◌++◌, length, slice_index, take, drop, refl, sym, ◌∙◌, ap, subst, inl, inr, arith, append_assoc, length-append}
+use Rattle.std.proofs.Common.{◌≡◌, ◌⊎◌, ℕ, ◌+◌, ◌-◌, ◌<◌, ◌≤◌, ◌/◌, ◌%◌, Bool, true, false, ◌&&◌, cond, nat_lt, List, [], ◌∷◌, ◌++◌, length, slice_index, refl, sym, ◌∙◌, ap, subst, inl, inr, arith, append_assoc, length-append}
 use Rattle.std.proofs.lemmas.List.{get_or_append_left, get_or-append-add, append-nil}
 use Rattle.std.proofs.lemmas.Str.{IsUtf8-append, IsUtf8-encode, IsUtf8-nil, encode_ascii, inside_one}
 use Rattle.std.specs.Str.{IsUtf8, all_scalars, encode_utf8_all}
@@ -61,12 +61,12 @@ cut_char c (b ∷ bs) r s e h = record {
   utf8 = subst IsUtf8 e (IsUtf8-encode c s);
   empty = λ z. absurd (omega (arith, z));
   whole = λ n z l.
-    let x : slice_index (encode_utf8 c) n ≡ slice_index (b ∷ bs) n = ap (λ l. slice_index l n) e ∙ get_or_append_left (b ∷ bs) r 0 n (omega (arith, z)) in
-    let low : slice_index (encode_utf8 c) n < 128 = rw x l in
-    let i : c ≡ slice_index (encode_utf8 c) n = inside_one c [] (encode_utf8 c) n (sym (append-nil (encode_utf8 c))) (omega (arith, z)) low in
-    let one : encode_utf8 c ≡ c ∷ [] = encode_ascii c (omega (arith, i, low)) in
-    let len : length (encode_utf8 c) ≡ 1 = ap length one in
-    absurd (omega (arith, z, h, len));
+      let x : slice_index (encode_utf8 c) n ≡ slice_index (b ∷ bs) n = ap (λ l. slice_index l n) e ∙ get_or_append_left (b ∷ bs) r 0 n (omega (arith, z)) in
+      let low : slice_index (encode_utf8 c) n < 128 = rw x l in
+      let i : c ≡ slice_index (encode_utf8 c) n = inside_one c [] (encode_utf8 c) n (sym (append-nil (encode_utf8 c))) (omega (arith, z)) low in
+      let one : encode_utf8 c ≡ c ∷ [] = encode_ascii c (omega (arith, i, low)) in
+      let len : length (encode_utf8 c) ≡ 1 = ap length one in
+      absurd (omega (arith, z, h, len));
 }
 
 pub ending : (cs bs more : List ℕ) → all_scalars cs ≡ true → encode_utf8_all cs ≡ bs ++ more → Ending bs
@@ -91,7 +91,7 @@ ending (c ∷ cs) bs more s e = on (below_or_past (length bs) (length (encode_ut
             | inl less ↦
                 let k : n ≡ length (encode_utf8 c) + (n - length (encode_utf8 c)) = omega (arith, less) in
                 let x : slice_index bs n ≡ slice_index t.0 (n - length (encode_utf8 c)) =
-                    ap (λ b. slice_index b n) t.1 ∙ ap (λ m. slice_index (encode_utf8 c ++ t.0) m) k ∙ get_or-append-add (encode_utf8 c) t.0 (n - length (encode_utf8 c)) 0 in
+                ap (λ b. slice_index b n) t.1 ∙ ap (λ m. slice_index (encode_utf8 c ++ t.0) m) k ∙ get_or-append-add (encode_utf8 c) t.0 (n - length (encode_utf8 c)) 0 in
                 i.whole (n - length (encode_utf8 c)) (omega (arith, l, z, less)) (rw (← x) low)
             | inr more ↦ i.empty (omega (arith, l, z, more))
           ];

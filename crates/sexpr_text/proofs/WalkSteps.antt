@@ -1,5 +1,5 @@
 -- The steps of the walk.
-use Rattle.std.proofs.Common.{◌≡◌, ◌⊎◌, ℕ, ◌+◌, ◌<◌, ◌≤◌, List, length, slice_index, take, refl, sym, ◌∙◌, ap, subst, inl, inr, arith, Some, None}
+use Rattle.std.proofs.Common.{◌≡◌, ◌⊎◌, ℕ, ◌+◌, ◌<◌, List, length, slice_index, take, refl, sym, ◌∙◌, ap, subst, inl, inr, Some, None}
 use Rattle.sexpr_text.specs.Spot.{Spot, step, spot}
 use Rattle.sexpr_text.specs.Spot.Spot.{Before, Inside, Quoted, Behind, Lost}
 use Rattle.sexpr_text.specs.Cut.{Cut, cut_step, cuts}

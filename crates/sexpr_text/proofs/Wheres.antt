@@ -1,14 +1,14 @@
 -- Where a place lies in a text's tree is where a reader stands there.
-use Rattle.std.proofs.Common.{◌≡◌, ◌⊎◌, ℕ, zero, suc, ◌+◌, ◌-◌, ◌<◌, ◌≤◌, Bool, true, false, ◌&&◌, nat_lt, cond, List, [], ◌++◌, length, slice_index, take, refl, sym, ◌∙◌, ap, subst, inl, inr, arith, length-append}
+use Rattle.std.proofs.Common.{◌≡◌, ℕ, ◌+◌, ◌-◌, ◌<◌, ◌≤◌, true, false, ◌&&◌, nat_lt, cond, List, ◌++◌, length, slice_index, take, refl, sym, ◌∙◌, ap, inl, inr, arith, length-append}
 use Rattle.std.proofs.lemmas.List.{length-take-le}
-use Rattle.sexpr_text.specs.Grammar.{Forest, Items, Spelt, Between, IsWhite, IsWord, IsString, IsBracket, is_space, is_word, is_escaped}
+use Rattle.sexpr_text.specs.Grammar.{Forest, Items, Spelt, IsWhite, IsWord, IsString, IsBracket, is_space, is_word}
 use Rattle.sexpr_text.specs.Grammar.Forest.{Nil, Word, Text, Group}
 use Rattle.sexpr_text.specs.Faults.{IsFront, Where, is_inside, where_among, where_in}
 use Rattle.sexpr_text.specs.Faults.Where.{Before as TreeBefore, Inside as TreeInside, Quoted as TreeQuoted, Behind as TreeBehind}
-use Rattle.sexpr_text.specs.Spot.{Spot, step, spot, opened, closed}
+use Rattle.sexpr_text.specs.Spot.{Spot, step, spot}
 use Rattle.sexpr_text.specs.Spot.Spot.{Before, Inside, Quoted, Behind, Lost}
 use Rattle.sexpr_text.proofs.Unique.{below_or_past}
-use Rattle.sexpr_text.proofs.Spots.{next, stays, space_before, space_behind, white_inside, word_over, word_inside, string_over, quoted_over, items_over, opened_some, closed_some}
+use Rattle.sexpr_text.proofs.Spots.{next, stays, space_before, space_behind, white_inside, word_over, word_inside, string_over, quoted_over, items_over, opened_some}
 use Rattle.sexpr_text.proofs.Finish.{spot_local, spot_take}
 
 -- a spot with room for so many lists lies in the others of the 64
@@ -40,10 +40,10 @@ early bytes room at end lists n Nil i h = refl
 early bytes room at end lists n (Word from to rest) i h = early bytes room to end lists n rest i.2 (omega (arith, i.0.order, i.1.order))
 early bytes room at end lists n (Text from to rest) i h =
     ap (λ b. cond b TreeQuoted (where_among lists n rest)) (outside_before n from to (omega (arith, i.0.order)))
-      ∙ early bytes room to end lists n rest i.2 (omega (arith, i.0.order, i.1.order))
+    ∙ early bytes room to end lists n rest i.2 (omega (arith, i.0.order, i.1.order))
 early bytes room at end lists n (Group from to inner rest) i h =
     ap (λ b. cond b (where_among (lists + 1) n inner) (where_among lists n rest)) (outside_before n from to (omega (arith, i.0.order)))
-      ∙ early bytes room to end lists n rest i.3 (omega (arith, i.0.order, i.1.order))
+    ∙ early bytes room to end lists n rest i.3 (omega (arith, i.0.order, i.1.order))
 
 shorter : (bytes : List ℕ) (at n end : ℕ) → IsWhite bytes at end → at ≤ n → n ≤ end → IsWhite bytes at n
 shorter bytes at n end w h k = record { order = h; within = omega (arith, w.within); each = λ j low less. w.each j low (omega arith) }
@@ -69,6 +69,7 @@ after_list bytes room from to inner low b i s = items_over bytes room from to (G
   where
     white_here : IsWhite bytes from from
     white_here = record { order = omega arith; within = omega (arith, b.order, b.within); each = λ k p q. absurd (omega arith) }
+
     white_there : IsWhite bytes to to
     white_there = record { order = omega arith; within = b.within; each = λ k p q. absurd (omega arith) }
 
@@ -87,22 +88,22 @@ among bytes room at end n (Word from to rest) low i s h k =
 among bytes room at end n (Text from to rest) low i s h k =
     elim (below_or_past n to) [
       | inl less ↦ elim (below_or_past from n) [
-          | inl inner ↦ in_string bytes room from n to i.1 (white_inside bytes room at from i.0 s) inner less
-              ∙ sym (ap (λ b. cond b TreeQuoted (where_among (64 - room) n rest)) (inside n from to inner less))
-          | inr past ↦ in_white bytes room at n from i.0 s h past
-              ∙ sym (ap (λ b. cond b TreeQuoted (where_among (64 - room) n rest)) (outside_before n from to past) ∙ early bytes room to end (64 - room) n rest i.2 (omega (arith, i.1.order)))
-        ]
+        | inl inner ↦ in_string bytes room from n to i.1 (white_inside bytes room at from i.0 s) inner less
+            ∙ sym (ap (λ b. cond b TreeQuoted (where_among (64 - room) n rest)) (inside n from to inner less))
+        | inr past ↦ in_white bytes room at n from i.0 s h past
+            ∙ sym (ap (λ b. cond b TreeQuoted (where_among (64 - room) n rest)) (outside_before n from to past) ∙ early bytes room to end (64 - room) n rest i.2 (omega (arith, i.1.order)))
+      ]
       | inr past ↦ among bytes room to end n rest low i.2 (string_over bytes room from to i.1 (white_inside bytes room at from i.0 s)) past k
           ∙ sym (ap (λ b. cond b TreeQuoted (where_among (64 - room) n rest)) (outside_behind n from to past (omega (arith, i.1.order))))
     ]
 among bytes room at end n (Group from to inner rest) low i s h k =
     elim (below_or_past n to) [
       | inl less ↦ elim (below_or_past from n) [
-          | inl within ↦ among bytes (room - 1) (from + 1) (to - 1) n inner (omega arith) i.2 (in_list bytes room from to i.1 (white_inside bytes room at from i.0 s)) (omega arith) (omega arith)
-              ∙ ap (λ lists. where_among lists n inner) (deeper i.1.deep) ∙ sym (ap (λ b. cond b (where_among (64 - room + 1) n inner) (where_among (64 - room) n rest)) (inside n from to within less))
-          | inr past ↦ in_white bytes room at n from i.0 s h past
-              ∙ sym (ap (λ b. cond b (where_among (64 - room + 1) n inner) (where_among (64 - room) n rest)) (outside_before n from to past) ∙ early bytes room to end (64 - room) n rest i.3 (omega (arith, i.1.order)))
-        ]
+        | inl within ↦ among bytes (room - 1) (from + 1) (to - 1) n inner (omega arith) i.2 (in_list bytes room from to i.1 (white_inside bytes room at from i.0 s)) (omega arith) (omega arith)
+            ∙ ap (λ lists. where_among lists n inner) (deeper i.1.deep) ∙ sym (ap (λ b. cond b (where_among (64 - room + 1) n inner) (where_among (64 - room) n rest)) (inside n from to within less))
+        | inr past ↦ in_white bytes room at n from i.0 s h past
+            ∙ sym (ap (λ b. cond b (where_among (64 - room + 1) n inner) (where_among (64 - room) n rest)) (outside_before n from to past) ∙ early bytes room to end (64 - room) n rest i.3 (omega (arith, i.1.order)))
+      ]
       | inr past ↦ among bytes room to end n rest low i.3 (after_list bytes room from to inner low i.1 i.2 (white_inside bytes room at from i.0 s)) past k
           ∙ sym (ap (λ b. cond b (where_among (64 - room + 1) n inner) (where_among (64 - room) n rest)) (outside_behind n from to past (omega (arith, i.1.order))))
     ]
@@ -117,21 +118,24 @@ where_spelt bytes (Group from to inner Nil) n t h =
       | inr before ↦ ap where_of (stays is_space Before space_before bytes 0 n n (omega arith) (λ j low less. i.0.each j low (omega arith)) refl)
           ∙ sym (ap (λ b. cond b (cond (nat_lt n to) (where_among 1 n inner) TreeBehind) TreeBefore) (not_below from n before))
       | inl past ↦ elim (below_or_past n to) [
-          | inl within ↦ among bytes 63 (from + 1) (to - 1) n inner (omega arith) i.2 opened_spot (omega arith) (omega arith)
-              ∙ sym (ap (λ b. cond b (cond (nat_lt n to) (where_among 1 n inner) TreeBehind) TreeBefore) (is_below from n past)
-                  ∙ ap (λ b. cond b (where_among 1 n inner) TreeBehind) (is_below n to within))
-          | inr behind ↦ ap where_of (stays is_space Behind space_behind bytes to (n - to) n (omega arith) (λ j low less. i.3.each j low (omega arith)) closed_spot)
-              ∙ sym (ap (λ b. cond b (cond (nat_lt n to) (where_among 1 n inner) TreeBehind) TreeBefore) (is_below from n past)
-                  ∙ ap (λ b. cond b (where_among 1 n inner) TreeBehind) (not_below n to behind))
-        ]
+        | inl within ↦ among bytes 63 (from + 1) (to - 1) n inner (omega arith) i.2 opened_spot (omega arith) (omega arith)
+            ∙ sym (ap (λ b. cond b (cond (nat_lt n to) (where_among 1 n inner) TreeBehind) TreeBefore) (is_below from n past)
+            ∙ ap (λ b. cond b (where_among 1 n inner) TreeBehind) (is_below n to within))
+        | inr behind ↦ ap where_of (stays is_space Behind space_behind bytes to (n - to) n (omega arith) (λ j low less. i.3.each j low (omega arith)) closed_spot)
+            ∙ sym (ap (λ b. cond b (cond (nat_lt n to) (where_among 1 n inner) TreeBehind) TreeBefore) (is_below from n past)
+            ∙ ap (λ b. cond b (where_among 1 n inner) TreeBehind) (not_below n to behind))
+      ]
     ]
   where
     i : Items bytes 64 0 (length bytes) (Group from to inner Nil)
     i = t.items
+
     start_spot : spot bytes from ≡ Before
     start_spot = stays is_space Before space_before bytes 0 from from (omega arith) i.0.each refl
+
     opened_spot : spot bytes (from + 1) ≡ Inside 63
     opened_spot = next bytes from (from + 1) refl ∙ ap (λ t. step t (slice_index bytes from)) start_spot ∙ ap (step Before) i.1.opening
+
     closed_spot : spot bytes to ≡ Behind
     closed_spot =
         let e : spot bytes (to - 1) ≡ Inside 63 = items_over bytes 63 (from + 1) (to - 1) inner (omega arith) i.2 opened_spot in

@@ -3,7 +3,7 @@ use Rattle.std.proofs.Common.{◌≡◌, ℕ, ◌+◌, ◌-◌, ◌<◌, ◌≤�
 use Rattle.std.specs.Str.{IsUtf8}
 use Rattle.sexpr_text.specs.Grammar.{Forest, Items, IsWhite, IsOneList, Spelt, is_space}
 use Rattle.sexpr_text.specs.Grammar.Forest.{Nil, Group}
-use Rattle.sexpr_text.specs.Flat.{Shown, flat}
+use Rattle.sexpr_text.specs.Flat.{flat}
 use Rattle.sexpr_text.specs.Built.{Built}
 use Rattle.sexpr_text.specs.Run.{TakesList, Stops, NoItems}
 use Rattle.sexpr_text.specs.Trees.{IsTreeOf}

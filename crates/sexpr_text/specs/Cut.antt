@@ -1,5 +1,5 @@
 -- Where a reader stands in a character of UTF-8, byte by byte: what the walk to a fault keeps.
-use Rattle.std.specs.Prelude.{ℕ, zero, suc, Bool, true, false, cond, ◌==◌, ◌&&◌, List, [], ◌∷◌, nat_lt, nat_le}
+use Rattle.std.specs.Prelude.{ℕ, zero, suc, cond, ◌==◌, ◌&&◌, List, [], ◌∷◌, nat_lt, nat_le}
 
 pub data Cut : Type 0 where
   -- between characters

@@ -1,5 +1,5 @@
 -- Where a reader stands in a text, byte by byte: what the walk to a fault keeps.
-use Rattle.std.specs.Prelude.{ℕ, zero, suc, ◌+◌, Bool, true, false, cond, ◌==◌, ◌||◌, List, slice_index}
+use Rattle.std.specs.Prelude.{ℕ, zero, suc, ◌+◌, Bool, true, false, cond, ◌==◌, List, slice_index}
 use Rattle.sexpr_text.specs.Grammar.{is_space}
 
 pub data Spot : Type 0 where

@@ -3,9 +3,9 @@ ghost use Rattle.std.specs.Prelude.{ℕ, List, MatchOption};
 ghost use Rattle.sexpr_text.specs.Grammar.{Forest, Spelt};
 ghost use Rattle.sexpr_text.specs.Faults.{IsFault};
 
+use crate::TextFault;
 use crate::cut::{Cutting, follow_cut, is_bad};
 use crate::stand::{Stand, follow, is_off, kind_at, kind_at_end};
-use crate::TextFault;
 
 /// The fault of a text, or nothing where it spells a tree. It goes on as long as the bytes begin some text.
 pub fn walk(bytes: &[u8]) -> Option<TextFault>

@@ -1,4 +1,4 @@
-use Rattle.std.proofs.Common.{arith, subst, sym}
+use Rattle.std.proofs.Common.{subst, sym}
 use Rattle.sexpr_text.specs.Trees.{IsTreeOf}
 use Rattle.sexpr_text.proofs.Whole.{whole, more_behind}
 use Rattle.sexpr_text.proofs.reader.whole.Goals as goal

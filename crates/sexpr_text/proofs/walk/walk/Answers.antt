@@ -1,4 +1,4 @@
-use Rattle.std.proofs.Common.{◌≡◌, ◌⊎◌, ◌+◌, ◌<◌, ◌≤◌, length, slice_index, inl, inr, arith, refl, sym, ◌∙◌, subst}
+use Rattle.std.proofs.Common.{◌≡◌, ◌⊎◌, slice_index, inl, inr, arith, refl, sym, ◌∙◌, subst}
 use Rattle.sexpr_text.specs.Faults.{IsFault}
 use Rattle.sexpr_text.specs.Spot.{step}
 use Rattle.sexpr_text.specs.Spot.Spot.{Lost}
@@ -16,10 +16,10 @@ each-init c = record { within = omega arith; stands = refl; alive = λ q. cc; ro
 pub returns-then-is_off : goal.returns-then-is_off
 returns-then-is_off c =
     let d : (step (seen c.each.stand) (slice_index c.args.bytes.now c.each.at) ≡ Lost) ⊎ (cut_step (seen_cut c.each.cut) (slice_index c.args.bytes.now c.each.at) ≡ Broken) =
-        elim c.then-is_off.branch [
-          | then-is_off-via-then-is_off w ↦ inl (sym c.follow-next.ensures.step ∙ c.is_off.ensures.yes w.if-is_off.true)
-          | then-is_off-via-else-is_off+then-is_bad w ↦ inr (sym c.follow_cut-later.ensures ∙ w.is_bad.ensures.yes w.if-is_bad.true)
-        ] in
+    elim c.then-is_off.branch [
+      | then-is_off-via-then-is_off w ↦ inl (sym c.follow-next.ensures.step ∙ c.is_off.ensures.yes w.if-is_off.true)
+      | then-is_off-via-else-is_off+then-is_bad w ↦ inr (sym c.follow_cut-later.ensures ∙ w.is_bad.ensures.yes w.if-is_bad.true)
+    ] in
     subst (λ k. IsFault c.args.bytes.now c.each.at k) (sym c.kind_at-kind.ensures)
     (walk_stop c.args.bytes.now c.each.at (seen c.each.stand) (seen_cut c.each.cut) c.each-test.true c.each.invariant.stands c.each.invariant.alive c.each.invariant.cuts_so c.each.invariant.valid d)
 

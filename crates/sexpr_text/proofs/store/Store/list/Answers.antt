@@ -1,6 +1,5 @@
-use Rattle.std.proofs.Common.{◌≡◌, ◌-◌, length, take, drop, arith, sym, ◌∙◌, ap}
+use Rattle.std.proofs.Common.{drop, arith, ◌∙◌, ap}
 use Rattle.std.proofs.lemmas.List.{take_rest}
-use Rattle.sexpr_text.specs.Built.{Built}
 use Rattle.sexpr_text.proofs.Stored.{list_nodes}
 use Rattle.sexpr_text.proofs.store.Store.list.Goals as goal
 

@@ -1,4 +1,4 @@
-use Rattle.std.proofs.Common.{arith, ap, ◌≡◌, ◌∙◌, slice_range, ◌<◌, ◌≤◌, length}
+use Rattle.std.proofs.Common.{arith, ap, ◌∙◌, slice_range}
 use Rattle.sexpr_text.proofs.Told.{within_told}
 use Rattle.sexpr_text.proofs.tree.Tree.bytes_of.Goals as goal
 

@@ -1,4 +1,4 @@
-use Rattle.std.proofs.Common.{arith, ◌≡◌, ◌<◌, ◌≤◌, ◌+◌, length, sym, ◌∙◌}
+use Rattle.std.proofs.Common.{arith, sym, ◌∙◌}
 use Rattle.std.proofs.lemmas.Result.{IfOk-weaker}
 use Rattle.sexpr_text.proofs.Told.{within_told, quotes_told, no_list, content_told}
 use Rattle.sexpr_text.proofs.tree.Tree.content.Goals as goal

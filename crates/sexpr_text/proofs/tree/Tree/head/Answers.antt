@@ -1,4 +1,4 @@
-use Rattle.std.proofs.Common.{◌≡◌, ◌<◌, ◌≤◌, sym, ◌∙◌, ap, None, Some}
+use Rattle.std.proofs.Common.{sym, ◌∙◌, ap}
 use Rattle.std.specs.Option.{option_copied}
 use Rattle.sexpr_text.proofs.Told.{within_told, no_head, head_told, other_head, no_word, first_below}
 use Rattle.sexpr_text.proofs.tree.Tree.head.Goals as goal

@@ -1,4 +1,4 @@
-use Rattle.std.proofs.Common.{◌≡◌, ◌+◌, ◌-◌, length, arith}
+use Rattle.std.proofs.Common.{◌-◌, arith}
 use Rattle.sexpr_text.proofs.Nodes.{root_node}
 use Rattle.sexpr_text.proofs.Stored.{stored_length}
 use Rattle.sexpr_text.proofs.tree.Tree.root.Goals as goal
