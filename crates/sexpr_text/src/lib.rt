@@ -11,6 +11,8 @@ mod reader;
 mod scan;
 mod stand;
 mod store;
+#[cfg(test)]
+mod tests;
 mod tree;
 mod walk;
 
