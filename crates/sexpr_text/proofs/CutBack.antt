@@ -3,10 +3,10 @@ use Rattle.std.proofs.Common.{◌≡◌, ◌⊎◌, ℕ, zero, suc, ◌+◌, ◌
 use Rattle.std.specs.Char.{IsScalar, encode_utf8}
 use Rattle.sexpr_text.specs.Cut.{Cut, lead, follows, cut_step, cuts}
 use Rattle.sexpr_text.specs.Cut.Cut.{Full, Next, Broken}
-use Rattle.sexpr_text.proofs.Utf8Ends.{below_or_past}
 use Rattle.sexpr_text.proofs.Cuts.{goes}
 use Rattle.sexpr_text.proofs.CutLaws.{broken_on}
 use lib.Utf8.{low_scalar}
+use Rattle.sexpr_text.proofs.Numbers.{below_or_past}
 
 -- the last bytes of a character are filled in
 abbrev pub pad : ℕ → List ℕ

@@ -5,9 +5,10 @@ use Rattle.std.specs.Char.{IsScalar, encode_utf8}
 use Rattle.sexpr_text.specs.Cut.{Cut, lead, cut_step, cuts}
 use Rattle.sexpr_text.specs.Cut.Cut.{Full, Next, Broken}
 use Rattle.sexpr_text.specs.Faults.{IsUtf8Front}
-use Rattle.sexpr_text.proofs.Utf8Ends.{below_or_past, scalar_first}
+use Rattle.sexpr_text.proofs.Utf8Ends.{scalar_first}
 use Rattle.sexpr_text.proofs.Cuts.{goes, lead1, lead2, lead4, three}
 use lib.Utf8.{scalar_cases}
+use Rattle.sexpr_text.proofs.Numbers.{below_or_past}
 
 pub two : (c : ℕ) → 128 ≤ c → c < 2048 → cuts Full ((192 + c / 64) ∷ (128 + c % 64) ∷ []) ≡ Full
 unfolding cuts

@@ -2,7 +2,7 @@
 use Rattle.std.proofs.Common.{◌≡◌, ◌⊎◌, ℕ, ◌+◌, ◌-◌, ◌*◌, ◌<◌, ◌≤◌, ◌/◌, ◌%◌, true, false, ◌==◌, nat_lt, nat_le, [], ◌∷◌, refl, ◌∙◌, ap, inl, inr, arith}
 use Rattle.sexpr_text.specs.Cut.{Cut, lead, follows, cut_step, cuts}
 use Rattle.sexpr_text.specs.Cut.Cut.{Full, Next}
-use Rattle.sexpr_text.proofs.Utf8Ends.{below_or_past}
+use Rattle.sexpr_text.proofs.Numbers.{below_or_past}
 
 pub goes : (low high left c : ℕ) → low ≤ c → c ≤ high → cut_step (Next low high left) c ≡ follows left
 goes low high left c a b =

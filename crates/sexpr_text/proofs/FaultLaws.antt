@@ -10,13 +10,10 @@ use Rattle.sexpr_text.specs.Seen.{refused}
 use Rattle.sexpr_text.specs.declared.error.TextKind.{TextKind}
 use Rattle.sexpr_text.specs.declared.error.TextKind.TheVariants.{StrayClose, NotList, After, TooDeep, BadUtf8}
 use Rattle.sexpr_text.proofs.Spots.{next}
-use Rattle.sexpr_text.proofs.Utf8Ends.{below_or_past}
 use Rattle.sexpr_text.proofs.Fronts.{front_alive, front_made, front_utf8}
 use Rattle.sexpr_text.proofs.Wheres.{where_of, where_front}
 use Rattle.sexpr_text.proofs.Table.{row_refused, ends_utf8}
-
-compared : (a b : ℕ) → (a ≡ b) ⊎ ((a < b) ⊎ (b < a))
-compared a b = grind arith
+use Rattle.sexpr_text.proofs.Numbers.{below_or_past, compared}
 
 -- less of a front is a front
 pub front_less : (bytes : List ℕ) (m n : ℕ) → m ≤ n → IsFront bytes n → IsFront bytes m

@@ -10,7 +10,8 @@ use Rattle.sexpr_text.specs.Faults.{IsFront, IsUtf8Front}
 use Rattle.sexpr_text.proofs.Spots.{spelt_behind, next}
 use Rattle.sexpr_text.proofs.Parse.{not_lost, behind_spelt}
 use Rattle.sexpr_text.proofs.Finish.{spot_local, spot_take, spot_run, run, finish, closers, finish_run, low, Low, highs_run, Open, high, high_step}
-use Rattle.sexpr_text.proofs.Utf8Ends.{Ending, ending, below_or_past}
+use Rattle.sexpr_text.proofs.Utf8Ends.{Ending, ending}
+use Rattle.sexpr_text.proofs.Numbers.{below_or_past}
 
 -- a front isn't lost
 pub front_alive : (bytes : List ℕ) (n : ℕ) → IsFront bytes n → spot bytes n ≡ Lost → ⊥

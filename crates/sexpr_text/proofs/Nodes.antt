@@ -10,7 +10,7 @@ use Rattle.sexpr_text.specs.Trees.{IsRoot, IsTreeAt, IsTreeOf, IsSpeltAt, AreInO
 use Rattle.sexpr_text.specs.declared.NodeKind.{NodeKind}
 use Rattle.sexpr_text.specs.declared.NodeKind.TheVariants as kinds
 use Rattle.sexpr_text.proofs.Steps.{node, length-flat, white_at}
-use Rattle.sexpr_text.proofs.Unique.{compared}
+use Rattle.sexpr_text.proofs.Numbers.{compared}
 
 get_mid : (xs ys : List Shown) (x : Shown) (n : ℕ) → length xs ≡ n → slice_get (xs ++ x ∷ ys) n ≡ Some x
 get_mid [] ys x zero e = refl

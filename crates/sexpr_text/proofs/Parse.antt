@@ -3,13 +3,14 @@ use Rattle.std.proofs.Common.{◌≡◌, ◌⊎◌, ℕ, zero, suc, ◌+◌, ◌
 use Rattle.sexpr_text.specs.Grammar.{Forest, Items, Spelt, IsWhite, is_space, is_word, is_escaped}
 use Rattle.sexpr_text.specs.Grammar.Forest.{Nil, Word, Text, Group}
 use Rattle.sexpr_text.proofs.Steps.{white_at, white_joined, widened}
-use Rattle.sexpr_text.proofs.Unique.{compared, word_solid}
+use Rattle.sexpr_text.proofs.Unique.{word_solid}
 use Rattle.std.specs.Str.{IsUtf8}
 use Rattle.sexpr_text.proofs.Local.{items_order}
 use Rattle.sexpr_text.proofs.Strings.{is_escaped-next}
 use Rattle.sexpr_text.specs.Spot.{Spot, step, spot, opened, closed}
 use Rattle.sexpr_text.specs.Spot.Spot.{Before, Inside, Quoted, Behind, Lost}
 use Rattle.sexpr_text.proofs.Spots.{next, lost_on}
+use Rattle.sexpr_text.proofs.Numbers.{compared}
 
 -- items up to a closing parenthesis
 pub record Upto (bytes : List ℕ) (room at : ℕ) : Type 0 where

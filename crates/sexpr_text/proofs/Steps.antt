@@ -7,6 +7,7 @@ use Rattle.sexpr_text.specs.declared.NodeKind as kinds
 use Rattle.sexpr_text.specs.declared.NodeKind.TheVariants as kind
 use Rattle.sexpr_text.specs.Run.{Reads, Stops, Through, NoItems}
 use Rattle.sexpr_text.proofs.Unique.{same_word, same_string, Begins, begins, begins_word, begins_string, same_begin, sort_below, one_reading, inner_stops, kind_of, place, same_start}
+use Rattle.sexpr_text.proofs.Numbers.{below_or_past}
 
 -- one list of items and then another
 abbrev pub append : Forest → Forest → Forest
@@ -48,11 +49,8 @@ pub white_joined : (bytes : List ℕ) (at mid to : ℕ) → IsWhite bytes at mid
 white_joined bytes at mid to a b = record {
   order = omega (arith, a.order, b.order);
   within = b.within;
-  each = λ k low high. elim (compared_to k mid) [ inl less ↦ a.each k low less | inr more ↦ b.each k more high ];
+  each = λ k low high. elim (below_or_past k mid) [ inl less ↦ a.each k low less | inr more ↦ b.each k more high ];
 }
-  where
-    compared_to : (k m : ℕ) → (k < m) ⊎ (m ≤ k)
-    compared_to k m = grind arith
 
 -- white space before a list of items
 pub widened : (bytes : List ℕ) (room at mid end : ℕ) (f : Forest) → IsWhite bytes at mid → Items bytes room mid end f → Items bytes room at end f

@@ -5,6 +5,7 @@ use Rattle.std.proofs.lemmas.Str.{IsUtf8-append, IsUtf8-encode, IsUtf8-nil, enco
 use Rattle.std.specs.Str.{IsUtf8, all_scalars, encode_utf8_all}
 use Rattle.std.specs.Char.{IsScalar, encode_utf8}
 use Rattle.sexpr_text.proofs.Finish.{Highs}
+use Rattle.sexpr_text.proofs.Numbers.{below_or_past}
 
 -- what may follow a front of UTF-8: nothing, where no character is cut
 pub record Ending (bs : List ℕ) : Type 0 where
@@ -13,9 +14,6 @@ pub record Ending (bs : List ℕ) : Type 0 where
   pub utf8 : IsUtf8 (bs ++ cont)
   pub empty : length bs ≡ 0 → cont ≡ []
   pub whole : (n : ℕ) → length bs ≡ n + 1 → slice_index bs n < 128 → cont ≡ []
-
-pub below_or_past : (a b : ℕ) → (a < b) ⊎ (b ≤ a)
-below_or_past a b = grind arith
 
 both : (a b : Bool) → (a && b) ≡ true → (a ≡ true) × (b ≡ true)
 both true b h = (refl, h)

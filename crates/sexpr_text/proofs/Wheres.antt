@@ -7,9 +7,9 @@ use Rattle.sexpr_text.specs.Faults.{IsFront, Where, is_inside, where_among, wher
 use Rattle.sexpr_text.specs.Faults.Where.{Before as TreeBefore, Inside as TreeInside, Quoted as TreeQuoted, Behind as TreeBehind}
 use Rattle.sexpr_text.specs.Spot.{Spot, step, spot}
 use Rattle.sexpr_text.specs.Spot.Spot.{Before, Inside, Quoted, Behind, Lost}
-use Rattle.sexpr_text.proofs.Unique.{below_or_past}
 use Rattle.sexpr_text.proofs.Spots.{next, stays, space_before, space_behind, white_inside, word_over, word_inside, string_over, quoted_over, items_over, opened_some}
 use Rattle.sexpr_text.proofs.Finish.{spot_local, spot_take}
+use Rattle.sexpr_text.proofs.Numbers.{below_or_past}
 
 -- a spot with room for so many lists lies in the others of the 64
 abbrev pub where_of : Spot → Where

@@ -66,8 +66,8 @@ fn item(bytes: &[u8], room: u8, at: usize, store: &mut Store) -> Result<usize, F
 {
     match bytes[at] {
         b'(' => list(bytes, room, at, store),
-        b'"' => string(bytes, room, at, store),
-        _ => word(bytes, room, at, store),
+        b'"' => string(bytes, at, store),
+        _ => word(bytes, at, store),
     }
 }
 
@@ -97,18 +97,17 @@ fn list(bytes: &[u8], room: u8, at: usize, store: &mut Store) -> Result<usize, F
     Ok(to)
 }
 
-/// Reads the string at a place.
-fn string(bytes: &[u8], room: u8, at: usize, store: &mut Store) -> Result<usize, Failure>
+/// Reads the string at a place, at any depth.
+fn string(bytes: &[u8], at: usize, store: &mut Store) -> Result<usize, Failure>
     requires small { length bytes.now < 2 ^ 32 }
     requires within { at < length bytes.now }
     requires opening { slice_index bytes.now at ≡ 34 }
-    ensures found { IfOk result (λ to. Takes bytes.now room at to store.old store.new) }
-    ensures through { IfOk result (λ to. Through bytes.now room at to) }
+    ensures found { IfOk result (λ to. (room : ℕ) → Takes bytes.now room at to store.old store.new) }
+    ensures through { IfOk result (λ to. (room : ℕ) → Through bytes.now room at to) }
     ensures forward { IfOk result (λ to. at < to) }
     ensures within { IfOk result (λ to. to ≤ length bytes.now) }
-    ensures none { IsErrOf result Failure.NoTree → NoItems bytes.now room at }
+    ensures none { IsErrOf result Failure.NoTree → (room : ℕ) → NoItems bytes.now room at }
 {
-    let _ = room;
     let Some(to) = string_end(bytes, at) else {
         return Err(Failure::NoTree);
     };
@@ -116,18 +115,17 @@ fn string(bytes: &[u8], room: u8, at: usize, store: &mut Store) -> Result<usize,
     Ok(to)
 }
 
-/// Reads the word at a place.
-fn word(bytes: &[u8], room: u8, at: usize, store: &mut Store) -> Result<usize, Failure>
+/// Reads the word at a place, at any depth.
+fn word(bytes: &[u8], at: usize, store: &mut Store) -> Result<usize, Failure>
     requires small { length bytes.now < 2 ^ 32 }
     requires within { at < length bytes.now }
     requires word { is_word (slice_index bytes.now at) ≡ true }
-    ensures found { IfOk result (λ to. Takes bytes.now room at to store.old store.new) }
-    ensures through { IfOk result (λ to. Through bytes.now room at to) }
+    ensures found { IfOk result (λ to. (room : ℕ) → Takes bytes.now room at to store.old store.new) }
+    ensures through { IfOk result (λ to. (room : ℕ) → Through bytes.now room at to) }
     ensures forward { IfOk result (λ to. at < to) }
     ensures within { IfOk result (λ to. to ≤ length bytes.now) }
     ensures none { IsErrOf result Failure.NoTree → ⊥ }
 {
-    let _ = room;
     let to = word_end(bytes, at);
     store.leaf(NodeKind::Word, at, to)?;
     Ok(to)
