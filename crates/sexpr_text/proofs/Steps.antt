@@ -1,5 +1,5 @@
 -- The steps of the reader, over plain values.
-use Rattle.std.proofs.Common.{◌≡◌, ◌⊎◌, ℕ, ◌+◌, ◌-◌, ◌<◌, ◌≤◌, false, List, [], ◌∷◌, ◌++◌, length, slice_index, refl, sym, ◌∙◌, ap, subst, inl, inr, arith, append_assoc, length-append, Result, Err, rules}
+use Rattle.std.proofs.Common.{◌≡◌, ℕ, ◌+◌, ◌-◌, ◌<◌, ◌≤◌, false, List, [], ◌∷◌, ◌++◌, length, slice_index, refl, sym, ◌∙◌, ap, subst, inl, inr, arith, append_assoc, length-append, Result, Err, rules}
 use Rattle.sexpr_text.specs.Grammar.{Forest, Items, IsWhite, IsWord, IsString, IsBracket, is_space}
 use Rattle.sexpr_text.specs.Grammar.Forest.{Nil, Word, Text, Group}
 use Rattle.sexpr_text.specs.Flat.{Shown, count, numbers, flat}

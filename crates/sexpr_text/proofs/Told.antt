@@ -1,7 +1,6 @@
 -- What the readers of a tree tell.
-use Rattle.std.proofs.Common.{◌≡◌, ◌⊎◌, inl, inr, ℕ, ◌+◌, ◌<◌, ◌≤◌, Bool, true, false, cond, List, [], ◌∷◌, length, drop, get_or, refl, sym, ◌∙◌, ap, subst, arith, Option, Some, None, slice_get, IfSome, drop-cons, add-one}
+use Rattle.std.proofs.Common.{◌≡◌, ◌⊎◌, inl, inr, ℕ, ◌+◌, ◌<◌, ◌≤◌, Bool, true, false, cond, List, [], ◌∷◌, length, drop, get_or, refl, sym, ◌∙◌, ap, subst, arith, Option, Some, None, slice_get, IfSome}
 use Rattle.std.specs.Prelude.{find}
-use Rattle.std.proofs.lemmas.List.{drop_all}
 use Rattle.sexpr_text.specs.Grammar.{Forest}
 use Rattle.sexpr_text.specs.Grammar.Forest.{Nil, Word, Text, Group}
 use Rattle.sexpr_text.specs.Items.{Item, IsLeafKind, items_of, children_of, content_at, content_of, first_word, head_of, is_headed}
@@ -11,6 +10,7 @@ use Rattle.sexpr_text.specs.declared.NodeKind.{NodeKind}
 use Rattle.sexpr_text.specs.declared.NodeKind.TheVariants as kinds
 use Rattle.sexpr_text.specs.declared.Span.{Span}
 use Rattle.sexpr_text.proofs.Nodes.{node_at, node_of, told, Found, found, IsWithin, places, leaf_item, list_item}
+use Rattle.sexpr_text.proofs.Walking.{FirstLeft, first_left, none_left}
 
 -- a node below the number of nodes, as it is seen
 record There (bytes : List ℕ) (nodes : List Shown) (id : ℕ) : Type 0 where
@@ -111,45 +111,25 @@ pub record Left (nodes : List Shown) (bytes name : List ℕ) (ids : List ℕ) (a
 pub left_first : (nodes : List Shown) (bytes name ids : List ℕ) (item : Item) → AreNodes nodes ids (children_of item) → Left nodes bytes name ids (children_of item)
 left_first nodes bytes name ids item h = record { items = children_of item; nodes_left = h; same = refl }
 
--- the first of the children that are left
-record Next (nodes : List Shown) (bytes name : List ℕ) (id : ℕ) (ids : List ℕ) (all : List Item) : Type 0 where
-  item : Item
-  rest : List Item
-  here : IsNode nodes id item
-  others : AreNodes nodes ids rest
-  same : find (is_headed bytes name) all ≡ cond (is_headed bytes name item) (Some item) (find (is_headed bytes name) rest)
-
-left_cons : (nodes : List Shown) (bytes name : List ℕ) (id : ℕ) (ids : List ℕ) (all : List Item) → Left nodes bytes name (id ∷ ids) all → Next nodes bytes name id ids all
-left_cons nodes bytes name id ids all l = on l.items l.nodes_left l.same
-  where
-    on : (items : List Item) → AreNodes nodes (id ∷ ids) items → find (is_headed bytes name) all ≡ find (is_headed bytes name) items → Next nodes bytes name id ids all
-    on [] h e = absurd h
-    on (item ∷ rest) h e = record { item = item; rest = rest; here = h.0; others = h.1; same = e }
-
-at_place : (ids : List ℕ) (i : ℕ) → i < length ids → drop i ids ≡ get_or ids i 0 ∷ drop (i + 1) ids
-at_place ids i h = rw add-one (drop-cons ids i 0 h)
-
 pub left_next : (nodes : List Shown) (bytes name ids : List ℕ) (i : ℕ) (all : List Item) (b : Bool) → i < length ids → Left nodes bytes name (drop i ids) all
     → ((item : Item) → IsNode nodes (get_or ids i 0) item → b ≡ is_headed bytes name item) → b ≡ false → Left nodes bytes name (drop (i + 1) ids) all
 left_next nodes bytes name ids i all b h l t other =
-    let n : Next nodes bytes name (get_or ids i 0) (drop (i + 1) ids) all = left_cons nodes bytes name (get_or ids i 0) (drop (i + 1) ids) all (subst (λ xs. Left nodes bytes name xs all) (at_place ids i h) l) in
-    let f : is_headed bytes name n.item ≡ false = sym (t n.item n.here) ∙ other in
-    record { items = n.rest; nodes_left = n.others; same = n.same ∙ ap (λ x. cond x (Some n.item) (find (is_headed bytes name) n.rest)) f }
+    let n : FirstLeft nodes ids i l.items = first_left nodes ids i l.items h l.nodes_left in
+    let f : is_headed bytes name n.item ≡ false = sym (t n.item n.is_node) ∙ other in
+    record { items = n.rest; nodes_left = n.others; same = l.same ∙ ap (find (is_headed bytes name)) n.split ∙ ap (λ x. cond x (Some n.item) (find (is_headed bytes name) n.rest)) f }
 
 pub left_here : (nodes : List Shown) (bytes name ids : List ℕ) (i : ℕ) (all : List Item) (b : Bool) → i < length ids → Left nodes bytes name (drop i ids) all
     → ((item : Item) → IsNode nodes (get_or ids i 0) item → b ≡ is_headed bytes name item) → b ≡ true → IsNodeOrNone nodes (Some (get_or ids i 0)) (find (is_headed bytes name) all)
 left_here nodes bytes name ids i all b h l t it =
-    let n : Next nodes bytes name (get_or ids i 0) (drop (i + 1) ids) all = left_cons nodes bytes name (get_or ids i 0) (drop (i + 1) ids) all (subst (λ xs. Left nodes bytes name xs all) (at_place ids i h) l) in
-    let f : is_headed bytes name n.item ≡ true = sym (t n.item n.here) ∙ it in
-    let g : find (is_headed bytes name) all ≡ Some n.item = n.same ∙ ap (λ x. cond x (Some n.item) (find (is_headed bytes name) n.rest)) f in
-    subst (λ o. IsNodeOrNone nodes (Some (get_or ids i 0)) o) (sym g) n.here
+    let n : FirstLeft nodes ids i l.items = first_left nodes ids i l.items h l.nodes_left in
+    let f : is_headed bytes name n.item ≡ true = sym (t n.item n.is_node) ∙ it in
+    let g : find (is_headed bytes name) all ≡ Some n.item = l.same ∙ ap (find (is_headed bytes name)) n.split ∙ ap (λ x. cond x (Some n.item) (find (is_headed bytes name) n.rest)) f in
+    subst (λ o. IsNodeOrNone nodes (Some (get_or ids i 0)) o) (sym g) n.is_node
 
 pub left_none : (nodes : List Shown) (bytes name ids : List ℕ) (i : ℕ) (all : List Item) → length ids ≤ i → Left nodes bytes name (drop i ids) all → IsNodeOrNone nodes None (find (is_headed bytes name) all)
-left_none nodes bytes name ids i all h l = on l.items (subst (λ xs. AreNodes nodes xs l.items) (drop_all i ids h) l.nodes_left) l.same
-  where
-    on : (items : List Item) → AreNodes nodes [] items → find (is_headed bytes name) all ≡ find (is_headed bytes name) items → IsNodeOrNone nodes None (find (is_headed bytes name) all)
-    on [] h e = subst (λ o. IsNodeOrNone nodes None o) (sym e) tt
-    on (item ∷ items) h e = absurd h
+left_none nodes bytes name ids i all h l =
+    let g : find (is_headed bytes name) all ≡ None = l.same ∙ ap (find (is_headed bytes name)) (none_left nodes ids i l.items h l.nodes_left) in
+    subst (λ o. IsNodeOrNone nodes None o) (sym g) tt
 
 -- the first of some numbers, where all are below another
 pub first_below : (ids : List ℕ) (n id : ℕ) → ((k : ℕ) → k < length ids → get_or ids k 0 < n) → slice_get ids 0 ≡ Some id → id < n

@@ -217,7 +217,10 @@ fn tells_what_is_wrong_and_where(rt: HostRuntime) {
     assert_eq!(rt; first_other(alloc, &EMPTY, TextKind::Empty), None);
     assert_eq!(rt; first_other(alloc, &BAD_STRING, TextKind::BadString), None);
     assert_eq!(rt; first_other(alloc, &UNCLOSED, TextKind::Unclosed), None);
-    assert_eq!(rt; first_other(alloc, &STRAY_CLOSE, TextKind::StrayClose), None);
+    assert_eq!(rt;
+        first_other(alloc, &STRAY_CLOSE, TextKind::StrayClose),
+        None
+    );
     assert_eq!(rt; first_other(alloc, &NOT_LIST, TextKind::NotList), None);
     assert_eq!(rt; first_other(alloc, &AFTER, TextKind::After), None);
     assert_eq!(rt; first_other(alloc, &BAD_UTF8, TextKind::BadUtf8), None);
@@ -253,7 +256,10 @@ fn each_prefix_of_a_board_is_refused_at_its_end(rt: HostRuntime) {
             (_, false) => TextKind::Unclosed,
         };
         if end + 1 < BOARD.len() {
-            assert!(rt; is_fault(rt.alloc(), &BOARD[..end], end, kind), "place {end}");
+            assert!(rt;
+                is_fault(rt.alloc(), &BOARD[..end], end, kind),
+                "place {end}"
+            );
         } else {
             assert!(rt; read(rt.alloc(), &BOARD[..end]).is_ok());
         }
@@ -269,8 +275,12 @@ fn content_of(alloc: Global, bytes: &[u8], index: usize) -> Result<Vec<u8>, Text
         return Ok(Vec::new(alloc));
     };
     match tree.kind(*child) {
-        NodeKind::Word => tree.content(alloc, bytes, *child).map_err(|_| TextError::Memory),
-        NodeKind::Text => tree.content(alloc, bytes, *child).map_err(|_| TextError::Memory),
+        NodeKind::Word => tree
+            .content(alloc, bytes, *child)
+            .map_err(|_| TextError::Memory),
+        NodeKind::Text => tree
+            .content(alloc, bytes, *child)
+            .map_err(|_| TextError::Memory),
         NodeKind::List => Ok(Vec::new(alloc)),
     }
 }
@@ -280,7 +290,11 @@ fn content_has_no_quotes_and_escapes(rt: HostRuntime) -> Result<(), Fail> {
     let text: &[u8] = b"(a\\n \"\" \"a\\nb\\rc\\td\" \"\\\\n\\\"\\(\\\xc3\xa9\" (b))";
     let contents: [&[u8]; 5] = [b"a\\n", b"", b"a\nb\rc\td", b"\\n\"(\xc3\xa9", b""];
     for (index, content) in contents.iter().enumerate() {
-        assert_eq!(rt; content_of(rt.alloc(), text, index)?.as_slice(), *content, "child {index}");
+        assert_eq!(rt;
+            content_of(rt.alloc(), text, index)?.as_slice(),
+            *content,
+            "child {index}"
+        );
     }
     Ok(())
 }
@@ -300,6 +314,9 @@ fn reads_the_items_of_a_board(rt: HostRuntime) -> Result<(), Fail> {
     let head = tree.head(BOARD, zone).expect(&rt, "head");
     assert_eq!(rt; &BOARD[head.from..head.to], b"zone".as_slice());
     let name = tree.find(BOARD, zone, b"net_name").expect(&rt, "name");
-    assert_eq!(rt; tree.bytes_of(BOARD, name), b"(net_name \"GND\")".as_slice());
+    assert_eq!(rt;
+        tree.bytes_of(BOARD, name),
+        b"(net_name \"GND\")".as_slice()
+    );
     Ok(())
 }
