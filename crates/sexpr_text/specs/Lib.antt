@@ -1,0 +1,11 @@
+pub mod Grammar
+pub mod Items
+pub mod Flat
+pub mod Trees
+pub mod Faults
+pub mod Built
+pub mod Storage
+pub mod Run
+pub mod Spot
+pub mod Cut
+pub mod Seen
