@@ -8,10 +8,13 @@ ghost use Rattle.std.specs.Prelude.{◌≡◌, ◌+◌, ◌<◌};
 use std::marker::Model;
 use std::sync::ledger::{Blank, Book, Ledger, Share};
 
+#[cfg(test)]
+mod tests;
+
 /// How many steps were taken. Only `tick` changes it.
 ///
 /// The ledger `L` says which count it is. To make one, call a function over `L: Ledger` at `std::marker::Brand` with a
-/// `Blank`, and pick the ledger's members from it: the test below shows this.
+/// `Blank`, and pick the ledger's members from it: the tests of this crate show how.
 #[derive(Drop)]
 pub struct Steps<L: Ledger> {
     book: Book<L>,
@@ -45,42 +48,5 @@ impl<L: Ledger> Steps<L> {
         ensures { self.new ≡ self.old + 1 }
     {
         self.book.add(&mut self.share, 1);
-    }
-}
-
-#[cfg(test)]
-mod tests {
-    ghost use Rattle.std.specs.Prelude.{◌≡◌, ◌+◌, ◌<◌, length};
-
-    use super::*;
-    use std::marker::Brand;
-    use std::test::Fail;
-
-    /// The sum of the bytes, one step for each.
-    fn sum_of<L: Ledger>(bytes: &[u8], steps: &mut Steps<L>) -> u64
-        ensures { steps.new ≡ steps.old + length bytes.now }
-    {
-        let mut sum: u64 = 0;
-        'bytes: for byte in bytes {
-            sum = sum.wrapping_add(u64::from(*byte));
-            steps.tick();
-        }
-        sum
-    }
-
-    /// Makes a count and hands it down.
-    fn counted<L: Ledger>(bytes: &[u8], blank: Blank) -> u64
-        requires name { blank.name ≡ L.name }
-        requires parts { blank.parts ≡ L.parts }
-        requires some { 0 < blank.parts }
-    {
-        let mut steps = Steps::<L>::new(blank);
-        sum_of(bytes, &mut steps)
-    }
-
-    #[test]
-    fn counts_each_byte(rt: HostRuntime) -> Result<(), Fail> {
-        assert!(rt; counted::<Brand>(b"abc", Blank::new(1)) == 294);
-        Ok(())
     }
 }
