@@ -1,0 +1,4 @@
+pub mod Told
+pub mod Names
+pub mod Files
+pub mod Rooms
