@@ -1,3 +1,5 @@
 pub mod Seen
 pub mod Faults
 pub mod Room
+pub mod Folder
+pub mod Memory

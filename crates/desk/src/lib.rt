@@ -9,8 +9,11 @@ ghost use Rattle.desk.specs.Seen.{Seen, Changes, ReadsFrom, with_file, appended,
 ghost use Rattle.desk.specs.Faults.{HasCause, TakesSome, OnlyReading, OnlyWriting, OnlySaying, OnlyComplaining};
 ghost use Rattle.desk.specs.Room.{cost_of, HasRoom, Spends};
 
+mod folder;
+mod memory_desk;
 mod real;
 
+pub use memory_desk::MemoryDesk;
 pub use real::RealDesk;
 
 /// A call of a desk failed.
