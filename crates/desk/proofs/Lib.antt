@@ -2,5 +2,7 @@ pub mod Told
 pub mod Names
 pub mod Files
 pub mod Entries
-pub mod Pieces
+pub mod Readings
+pub mod Tables
+pub mod Reserve
 pub mod Rooms

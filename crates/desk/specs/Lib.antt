@@ -3,3 +3,5 @@ pub mod Faults
 pub mod Room
 pub mod Folder
 pub mod Memory
+pub mod Arena
+pub mod Never

@@ -9,11 +9,15 @@ ghost use Rattle.desk.specs.Seen.{Seen, Changes, ReadsFrom, with_file, appended,
 ghost use Rattle.desk.specs.Faults.{HasCause, TakesSome, OnlyReading, OnlyWriting, OnlySaying, OnlyComplaining};
 ghost use Rattle.desk.specs.Room.{cost_of, HasRoom, Spends};
 
+mod arena;
 mod folder;
 mod memory_desk;
+mod never_fails;
+mod pieces;
 mod real;
 
 pub use memory_desk::MemoryDesk;
+pub use never_fails::NeverFails;
 pub use real::RealDesk;
 
 /// A call of a desk failed.

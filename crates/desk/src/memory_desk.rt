@@ -4,10 +4,11 @@ ghost use Rattle.std.specs.List.{list_any};
 ghost use Rattle.std.specs.List.Sorted.{IsStrictlyIncreasing};
 ghost use Rattle.std.specs.FinMap.{empty, get};
 ghost use Rattle.desk.specs.Seen.{ReadsFrom, content, with_file, appended, with_said, with_complained};
-ghost use Rattle.desk.specs.Faults.{HasCause, TakesSome};
+ghost use Rattle.desk.specs.Faults.{HasCause};
 ghost use Rattle.desk.specs.Memory.{raised, is_listed, done, failed, refused, reading_raised, writing_raised, saying_raised, complaining_raised};
 
 use crate::folder::Folder;
+use crate::pieces::{copy_some, first_of};
 use crate::{Counts, Desk, Failed};
 use grid_num::Memory;
 use std::alloc::Global;
@@ -66,29 +67,6 @@ fn count_call(failing: &[u64], calls: &mut u64) -> bool
 {
     *calls = calls.saturating_add(1);
     failing.contains(&*calls)
-}
-
-/// The first bytes of a piece that a call takes.
-pub fn first_of(bytes: &[u8], step: usize) -> &[u8]
-    ensures same { result.now ≡ take (length result.now) bytes.now }
-    ensures count { length result.now ≡ min step (length bytes.now) }
-{
-    let count = bytes.len().min(step);
-    &bytes[..count]
-}
-
-/// Copies some bytes, from a place on, to the front of a piece.
-pub fn copy_some(bytes: &[u8], from: u64, step: usize, into: &mut [u8]) -> usize
-    ensures count { result ≡ min (min step (length into.old)) (length bytes.now - from) }
-    ensures filled { into.new ≡ take result (drop from bytes.now) ++ drop result into.old }
-{
-    if from >= bytes.len() as u64 {
-        return 0;
-    }
-    let rest = &bytes[from as usize..];
-    let count = step.min(into.len()).min(rest.len());
-    into[..count].copy_from_slice(&rest[..count]);
-    count
 }
 
 impl MemoryDesk {
@@ -220,7 +198,7 @@ impl Desk for MemoryDesk {
         ensures done { IfOk result (λ n. self.new ≡ done (appended name.now (take n bytes.now)) self.old) }
         ensures listed { IsTrue (is_listed self.old) → IsErr result }
         ensures refused { OnErr result (self.new ≡ refused writing_raised self.old) }
-        ensures some { TakesSome self.old.faults.writing self.new.faults.writing (Some self.old.seen) (Some self.new.seen) bytes.now result }
+        ensures some { IfOk result (λ n. 0 < length bytes.now → 0 < n) }
         ensures cause { HasCause self.old.faults.writing self.new.faults.writing result }
     {
         if count_call(&self.failing, &mut self.calls) {
@@ -239,7 +217,7 @@ impl Desk for MemoryDesk {
         ensures done { IfOk result (λ n. self.new ≡ done (with_said (take n bytes.now)) self.old) }
         ensures listed { IsTrue (is_listed self.old) → IsErr result }
         ensures refused { OnErr result (self.new ≡ refused saying_raised self.old) }
-        ensures some { TakesSome self.old.faults.saying self.new.faults.saying (Some self.old.seen) (Some self.new.seen) bytes.now result }
+        ensures some { IfOk result (λ n. 0 < length bytes.now → 0 < n) }
         ensures cause { HasCause self.old.faults.saying self.new.faults.saying result }
     {
         if count_call(&self.failing, &mut self.calls) {
@@ -258,7 +236,7 @@ impl Desk for MemoryDesk {
         ensures done { IfOk result (λ n. self.new ≡ done (with_complained (take n bytes.now)) self.old) }
         ensures listed { IsTrue (is_listed self.old) → IsErr result }
         ensures refused { OnErr result (self.new ≡ refused complaining_raised self.old) }
-        ensures some { TakesSome self.old.faults.complaining self.new.faults.complaining (Some self.old.seen) (Some self.new.seen) bytes.now result }
+        ensures some { IfOk result (λ n. 0 < length bytes.now → 0 < n) }
         ensures cause { HasCause self.old.faults.complaining self.new.faults.complaining result }
     {
         if count_call(&self.failing, &mut self.calls) {

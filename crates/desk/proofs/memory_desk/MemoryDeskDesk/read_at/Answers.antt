@@ -1,7 +1,7 @@
 use Rattle.std.proofs.Common.{◌≡◌, ◌∙◌, ap, subst, List, ℕ, [], unwrap_or}
 use Rattle.desk.specs.Seen.{content, Gives}
 use Rattle.desk.specs.Memory.{MemoryState}
-use Rattle.desk.proofs.Pieces.{gives_least}
+use Rattle.desk.proofs.Readings.{gives_least}
 use Rattle.desk.proofs.memory_desk.MemoryDeskDesk.read_at.Goals as goal
 
 pub returns-in-Some-clause-bytes : goal.returns-in-Some-clause-bytes
