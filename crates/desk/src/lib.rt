@@ -15,6 +15,8 @@ mod memory_desk;
 mod never_fails;
 mod pieces;
 mod real;
+#[cfg(test)]
+mod tests;
 
 pub use memory_desk::MemoryDesk;
 pub use never_fails::NeverFails;
