@@ -3,6 +3,9 @@ use Rattle.std.specs.Prelude.{◌≡◌, ℕ, ◌+◌, ◌-◌, ◌^◌, ◌<◌
 use Rattle.desk.specs.Seen.{Seen}
 use Rattle.desk.specs.declared.Counts.{Counts}
 
+abbrev pub no_faults : Counts
+no_faults = record { reading = 0; writing = 0; saying = 0; complaining = 0 }
+
 -- A count rose: it is greater than before, or stands at its last value.
 abbrev pub Rose : (before now : ℕ) → Type 0
 Rose before now = min (before + 1) (2 ^ 64 - 1) ≤ now

@@ -5,7 +5,6 @@ use Rattle.std.specs.Cmp.Lexicographic.{slice_cmp}
 use Rattle.std.specs.FinMap.{FinMap, code}
 use Rattle.std.specs.Coded.{Coded, code_by, coded×, coded_ℕ, coded_list}
 use Rattle.desk.specs.Seen.{Seen}
-use Rattle.desk.specs.declared.Counts.{Counts}
 
 pub record NeverState : Type 0 where
   -- what it tells
@@ -24,10 +23,6 @@ never_code =
     (λ s. ((s.seen.files, (s.seen.said, s.seen.complained)), (s.step, s.room)))
     (λ p. record { seen = record { files = p.0.0; said = p.0.1.0; complained = p.0.1.1 }; step = p.1.0; room = p.1.1 })
     (λ _. refl)
-
--- its counts, which stay 0
-abbrev pub no_faults : Counts
-no_faults = record { reading = 0; writing = 0; saying = 0; complaining = 0 }
 
 -- What a call leaves: what is told has changed, and it took this many bytes of the room.
 abbrev pub spent : (Seen → Seen) → ℕ → NeverState → NeverState

@@ -1,7 +1,7 @@
 // Names with their contents, in memory that was reserved before, so that no change within the room takes memory.
-ghost use Rattle.std.specs.Prelude.{◌≡◌, ◌≢◌, true, false, ◌<◌, ◌≤◌, ◌+◌, ◌-◌, ◌++◌, [], ◌∷◌, length, slice_index_or, vec_len, vec_capacity, option_copied, IfSome, IfNone, IfOk, OnOk, OnErr};
+ghost use Rattle.std.specs.Prelude.{◌≡◌, ◌≢◌, true, false, ◌<◌, ◌≤◌, ◌+◌, ◌-◌, ◌++◌, [], ◌∷◌, length, vec_len, vec_capacity, option_copied, IfSome, IfNone, IfOk, OnOk, OnErr};
 ghost use Rattle.std.specs.FinMap.{empty, get, insert};
-ghost use Rattle.desk.specs.Folder.{bytes_of, IsFirst, IsNowhere, IsReplaced};
+ghost use Rattle.desk.specs.Folder.{bytes_of, entry_at, IsFirst, IsNowhere, IsReplaced, IsExtended};
 ghost use Rattle.desk.specs.Room.{cost_in};
 ghost use Rattle.desk.specs.Arena.{entries_of, offset_of, IsTable, IsPlace};
 
@@ -80,7 +80,7 @@ fn place_of(table: &[Lengths], bytes: &[u8], name: &str) -> Option<Spot>
 fn contents_at<'a>(table: &[Lengths], bytes: &'a [u8], spot: Spot) -> &'a [u8]
     requires table { IsTable table.now bytes.now }
     requires place { IsPlace table.now spot }
-    ensures { result.now ≡ (slice_index_or (entries_of table.now bytes.now) spot.index ([], [])).1 }
+    ensures { result.now ≡ (entry_at (entries_of table.now bytes.now) spot.index).1 }
 {
     let own = table[spot.index];
     let start = spot.at + own.name;
@@ -93,7 +93,8 @@ fn grow(table: &mut Vec<Lengths>, bytes: &mut Vec<u8>, spot: Spot, piece: &[u8])
     requires place { IsPlace table.old.items spot }
     requires fits { vec_len bytes.old + length piece.now ≤ vec_capacity bytes.old }
     ensures table { IsTable table.new.items bytes.new.items }
-    ensures entries { IsReplaced (entries_of table.old.items bytes.old.items) spot.index ((slice_index_or (entries_of table.old.items bytes.old.items) spot.index ([], [])).1 ++ piece.now) (entries_of table.new.items bytes.new.items) }
+    ensures entries { IsExtended (entries_of table.old.items bytes.old.items) spot.index piece.now
+        (entries_of table.new.items bytes.new.items) }
     ensures len { vec_len bytes.new ≡ vec_len bytes.old + length piece.now }
     ensures capacity { vec_capacity bytes.old ≤ vec_capacity bytes.new }
     ensures names { vec_len table.new ≡ vec_len table.old }
@@ -114,7 +115,8 @@ fn refill(table: &mut Vec<Lengths>, bytes: &mut Vec<u8>, spot: Spot, fresh: &[u8
     requires place { IsPlace table.old.items spot }
     requires fits { vec_len bytes.old + length fresh.now ≤ vec_capacity bytes.old }
     ensures table { IsTable table.new.items bytes.new.items }
-    ensures entries { IsReplaced (entries_of table.old.items bytes.old.items) spot.index fresh.now (entries_of table.new.items bytes.new.items) }
+    ensures entries { IsReplaced (entries_of table.old.items bytes.old.items) spot.index fresh.now
+        (entries_of table.new.items bytes.new.items) }
     ensures len { vec_len bytes.new ≤ vec_len bytes.old + length fresh.now }
     ensures capacity { vec_capacity bytes.old ≤ vec_capacity bytes.new }
     ensures names { vec_len table.new ≡ vec_len table.old }
@@ -134,7 +136,8 @@ fn add(table: &mut Vec<Lengths>, bytes: &mut Vec<u8>, name: &str, contents: &[u8
     requires names_fit { vec_len table.old < vec_capacity table.old }
     requires fits { vec_len bytes.old + (length name.now + length contents.now) ≤ vec_capacity bytes.old }
     ensures table { IsTable table.new.items bytes.new.items }
-    ensures entries { entries_of table.new.items bytes.new.items ≡ entries_of table.old.items bytes.old.items ++ (name.now, contents.now) ∷ [] }
+    ensures entries { entries_of table.new.items bytes.new.items
+        ≡ entries_of table.old.items bytes.old.items ++ (name.now, contents.now) ∷ [] }
     ensures len { vec_len bytes.new ≡ vec_len bytes.old + (length name.now + length contents.now) }
     ensures capacity { vec_capacity bytes.old ≤ vec_capacity bytes.new }
     ensures names { vec_len table.new ≡ vec_len table.old + 1 }
@@ -190,7 +193,11 @@ impl Arena {
     /// Adds bytes to the contents of a name, and makes it where it isn't there.
     pub fn append(&mut self, name: &str, piece: &[u8])
         requires { cost_in self.old.files name.now + length piece.now ≤ self.old.room }
-        ensures { self.new ≡ record { files = insert self.old.files name.now (bytes_of self.old.files name.now ++ piece.now); room = self.old.room - (cost_in self.old.files name.now + length piece.now) } }
+        ensures { self.new
+            ≡ record {
+              files = insert self.old.files name.now (bytes_of self.old.files name.now ++ piece.now);
+              room = self.old.room - (cost_in self.old.files name.now + length piece.now);
+            } }
     {
         match place_of(&self.table, &self.bytes, name) {
             Some(spot) => {
@@ -207,7 +214,8 @@ impl Arena {
     /// Makes the contents of a name empty, and makes it where it isn't there.
     pub fn clear(&mut self, name: &str)
         requires { cost_in self.old.files name.now ≤ self.old.room }
-        ensures { self.new ≡ record { files = insert self.old.files name.now []; room = self.old.room - cost_in self.old.files name.now } }
+        ensures { self.new
+            ≡ record { files = insert self.old.files name.now []; room = self.old.room - cost_in self.old.files name.now } }
     {
         match place_of(&self.table, &self.bytes, name) {
             Some(spot) => refill(&mut self.table, &mut self.bytes, spot, &[]),

@@ -1,7 +1,7 @@
 // Names with their contents, in memory.
-ghost use Rattle.std.specs.Prelude.{◌≡◌, ◌≢◌, true, false, ◌<◌, ◌++◌, ℕ, [], ◌∷◌, length, map, slice_index_or, option_copied, IfSome, IfNone, OnOk, OnErr};
+ghost use Rattle.std.specs.Prelude.{◌≡◌, ◌≢◌, true, false, ◌<◌, ◌++◌, ℕ, [], ◌∷◌, length, map, option_copied, IfSome, IfNone, OnOk, OnErr};
 ghost use Rattle.std.specs.FinMap.{empty, get, insert};
-ghost use Rattle.desk.specs.Folder.{entry, bytes_of, IsFirst, IsNowhere, IsReplaced};
+ghost use Rattle.desk.specs.Folder.{entry, entry_at, bytes_of, IsFirst, IsNowhere, IsReplaced, IsExtended};
 
 use std::alloc::{AllocError, Global};
 use std::marker::Model;
@@ -68,7 +68,7 @@ fn extend(file: &mut File, bytes: &[u8]) -> Result<(), AllocError>
 /// Adds bytes to the file at a place.
 fn extend_file(files: &mut Vec<File>, at: usize, bytes: &[u8]) -> Result<(), AllocError>
     requires { at < length files.old.items }
-    ensures ok { OnOk result (IsReplaced (map entry files.old.items) at ((slice_index_or (map entry files.old.items) at ([], [])).1 ++ bytes.now) (map entry files.new.items)) }
+    ensures ok { OnOk result (IsExtended (map entry files.old.items) at bytes.now (map entry files.new.items)) }
     ensures err { OnErr result (map entry files.new.items ≡ map entry files.old.items) }
 {
     extend(&mut files[at], bytes)
@@ -180,7 +180,7 @@ impl Folder {
 /// The contents of the file at a place.
 fn bytes_at(files: &[File], at: usize) -> &[u8]
     requires { at < length files.now }
-    ensures { result.now ≡ (slice_index_or (map entry files.now) at ([], [])).1 }
+    ensures { result.now ≡ (entry_at (map entry files.now) at).1 }
 {
     let file = &files[at];
     file.bytes.as_slice()

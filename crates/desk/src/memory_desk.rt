@@ -4,7 +4,7 @@ ghost use Rattle.std.specs.List.{list_any};
 ghost use Rattle.std.specs.List.Sorted.{IsStrictlyIncreasing};
 ghost use Rattle.std.specs.FinMap.{empty, get};
 ghost use Rattle.desk.specs.Seen.{ReadsFrom, content, with_file, appended, with_said, with_complained};
-ghost use Rattle.desk.specs.Faults.{HasCause};
+ghost use Rattle.desk.specs.Faults.{HasCause, no_faults};
 ghost use Rattle.desk.specs.Memory.{raised, is_listed, done, failed, refused, reading_raised, writing_raised, saying_raised, complaining_raised};
 
 use crate::folder::Folder;
@@ -32,6 +32,7 @@ pub struct MemoryDesk {
 
 impl Model for MemoryDesk {
     ghost use Rattle.std.specs.Prelude.{◌<◌};
+    ghost use Rattle.std.specs.List.Sorted.{IsStrictlyIncreasing};
     ghost use Rattle.desk.specs.Memory.{MemoryState, memory_code};
 
     ghost Value = { MemoryState };
@@ -40,7 +41,7 @@ impl Model for MemoryDesk {
 
     ghost view = { λ d. record { seen = record { files = d.folder; said = d.said.items; complained = d.complained.items }; step = d.step; failing = d.failing.items; calls = d.calls; starved = d.starved; faults = d.faults } };
 
-    ghost invariant = { λ d. 0 < d.step };
+    ghost invariant = { λ d. (0 < d.step) × IsStrictlyIncreasing d.failing.items };
 }
 
 /// One more fault.
@@ -62,11 +63,12 @@ fn starve(starved: &mut u64, count: &mut u64) -> Failed
 
 /// Counts a call, and says whether it is one that is to fail.
 fn count_call(failing: &[u64], calls: &mut u64) -> bool
+    requires { IsStrictlyIncreasing failing.now }
     ensures counted { calls.new ≡ raised calls.old }
     ensures listed { result ≡ list_any (λ n. n == calls.new) failing.now }
 {
     *calls = calls.saturating_add(1);
-    failing.contains(&*calls)
+    failing.binary_search(&*calls).is_ok()
 }
 
 impl MemoryDesk {
@@ -74,7 +76,7 @@ impl MemoryDesk {
     pub fn new(alloc: Global, step: usize, failing: &[u64]) -> Result<Self, Memory>
         requires step { 0 < step }
         requires ascend { IsStrictlyIncreasing failing.now }
-        ensures { IfOk result (λ d. d ≡ record { seen = record { files = empty; said = []; complained = [] }; step = step; failing = failing.now; calls = 0; starved = 0; faults = record { reading = 0; writing = 0; saying = 0; complaining = 0 } }) }
+        ensures { IfOk result (λ d. d ≡ record { seen = record { files = empty; said = []; complained = [] }; step = step; failing = failing.now; calls = 0; starved = 0; faults = no_faults }) }
     {
         let failing = Vec::from_slice(alloc, failing)?;
         Ok(MemoryDesk {

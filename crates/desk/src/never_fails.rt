@@ -3,7 +3,8 @@ ghost use Rattle.std.specs.Prelude.{◌≡◌, ◌<◌, ◌≤◌, ◌-◌, ◌+
 ghost use Rattle.std.specs.FinMap.{empty, get};
 ghost use Rattle.desk.specs.Seen.{ReadsFrom, content, with_file, appended, with_said, with_complained};
 ghost use Rattle.desk.specs.Room.{cost_in};
-ghost use Rattle.desk.specs.Never.{no_faults, spent};
+ghost use Rattle.desk.specs.Faults.{no_faults};
+ghost use Rattle.desk.specs.Never.{spent};
 
 use crate::arena::Arena;
 use crate::pieces::{copy_some, first_of, push_all};

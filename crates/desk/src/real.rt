@@ -1,5 +1,6 @@
 // The real outside. It tells neither contents nor room.
-ghost use Rattle.std.specs.Prelude.{◌≤◌, length, None, IfOk};
+ghost use Rattle.std.specs.Prelude.{◌≡◌, ◌≤◌, length, None, IfOk};
+ghost use Rattle.desk.specs.Faults.{no_faults};
 ghost use Rattle.std.proofs.Common.{rules};
 
 use crate::{Counts, Desk, Failed};
@@ -19,7 +20,9 @@ pub struct RealDesk<'a, R: Files + Print + Eprint> {
 
 impl<'a, R: Files + Print + Eprint> RealDesk<'a, R> {
     /// A desk over this runtime, with no faults yet. It takes no memory.
-    pub fn new(rt: &'a R) -> Self {
+    pub fn new(rt: &'a R) -> Self
+        ensures { result.counts ≡ no_faults }
+    {
         RealDesk {
             rt,
             counts: Counts {
