@@ -3,12 +3,16 @@ use Rattle.std.specs.Prelude.{◌≡◌, ℕ, ◌≤◌, List, [], ◌++◌, len
 use Rattle.std.specs.Option.{option_map}
 use Rattle.std.specs.Ordering.{nat_cmp}
 use Rattle.std.specs.Cmp.Lexicographic.{slice_cmp}
-use Rattle.std.specs.FinMap.{FinMap, get, insert}
+use Rattle.std.specs.FinMap.{FinMap, empty, get, insert}
 
 pub record Seen : Type 0 where
   pub files : FinMap (slice_cmp nat_cmp) (List ℕ)
   pub said : List ℕ
   pub complained : List ℕ
+
+-- no names, and nothing said
+abbrev pub nothing : Seen
+nothing = record { files = empty; said = []; complained = [] }
 
 -- the bytes of a name, none where it isn't there
 abbrev pub content : List ℕ → Seen → List ℕ

@@ -46,7 +46,8 @@ impl Model for Arena {
     ghost view = { λ a. record { files = stored a.table.items a.bytes.items; room = a.room } };
 
     ghost invariant = { λ a. IsTable a.table.items a.bytes.items
-        × IsReserved (stored a.table.items a.bytes.items) (vec_len a.table) (vec_capacity a.table) (vec_len a.bytes) (vec_capacity a.bytes) a.room };
+        × IsReserved (stored a.table.items a.bytes.items) (vec_len a.table) (vec_capacity a.table)
+        (vec_len a.bytes) (vec_capacity a.bytes) a.room };
 }
 
 fn is_name(bytes: &[u8], name: &str) -> bool
@@ -156,7 +157,7 @@ impl Arena {
     pub fn new(alloc: Global, room: usize) -> Result<Self, Memory>
         ensures { IfOk result (λ a. a ≡ record { files = empty; room = room }) }
     {
-        // A place for each name that the room allows, each but the empty name takes a byte.
+        // A place in the table for each name that the room allows: each but the empty name takes a byte.
         let Some(names) = room.checked_add(1) else {
             return Err(Memory);
         };
@@ -229,7 +230,8 @@ impl Arena {
     /// Puts bytes in place of the contents of a name, and makes it where it isn't there. It takes memory for them, and
     /// leaves the room as it was.
     pub fn put(&mut self, name: &str, bytes: &[u8]) -> Result<(), Memory>
-        ensures ok { OnOk result (self.new ≡ record { files = insert self.old.files name.now bytes.now; room = self.old.room }) }
+        ensures ok { OnOk result (self.new
+            ≡ record { files = insert self.old.files name.now bytes.now; room = self.old.room }) }
         ensures err { OnErr result (self.new ≡ self.old) }
     {
         let more = sum_of(self.room, name.len(), bytes.len())?;
@@ -245,12 +247,12 @@ impl Arena {
     }
 }
 
-/// The sum, where it is a length.
-fn sum_of(room: usize, name: usize, contents: usize) -> Result<usize, Memory>
-    ensures { IfOk result (λ n. n ≡ room + (name + contents)) }
+/// The sum of three lengths. What is longer than any memory is refused.
+fn sum_of(a: usize, b: usize, c: usize) -> Result<usize, Memory>
+    ensures { IfOk result (λ n. n ≡ a + (b + c)) }
 {
-    match room.checked_add(name) {
-        Some(more) => more.checked_add(contents).ok_or(Memory),
+    match a.checked_add(b) {
+        Some(sum) => sum.checked_add(c).ok_or(Memory),
         None => Err(Memory),
     }
 }

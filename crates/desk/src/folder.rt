@@ -130,14 +130,10 @@ impl Folder {
         ensures err { OnErr result (self.new ≡ self.old) }
     {
         match place_of(&self.files, name) {
-            Some(at) => {
-                extend_file(&mut self.files, at, bytes)?;
-                Ok(())
-            }
+            Some(at) => extend_file(&mut self.files, at, bytes),
             None => {
                 let bytes = Vec::from_slice(self.alloc, bytes)?;
-                add_file(self.alloc, &mut self.files, name, bytes)?;
-                Ok(())
+                add_file(self.alloc, &mut self.files, name, bytes)
             }
         }
     }
@@ -169,10 +165,7 @@ impl Folder {
                 replace_file(&mut self.files, at, bytes);
                 Ok(())
             }
-            None => {
-                add_file(self.alloc, &mut self.files, name, bytes)?;
-                Ok(())
-            }
+            None => add_file(self.alloc, &mut self.files, name, bytes),
         }
     }
 }

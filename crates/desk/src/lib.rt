@@ -82,7 +82,8 @@ pub trait Desk {
         ensures err { OnErr result (seen self.new ≡ seen self.old) }
         ensures spent { IfOk result (λ n. Spends (room self.old) (room self.new) (cost_of (seen self.old) name.now + n)) }
         ensures unspent { OnErr result (room self.new ≡ room self.old) }
-        ensures some { TakesSome (counts self.old).writing (counts self.new).writing (seen self.old) (seen self.new) bytes.now result }
+        ensures some { TakesSome (counts self.old).writing (counts self.new).writing
+            (seen self.old) (seen self.new) bytes.now result }
         ensures cause { HasCause (counts self.old).writing (counts self.new).writing result }
         ensures others { OnlyWriting (counts self.old) (counts self.new) };
 
@@ -94,7 +95,8 @@ pub trait Desk {
         ensures err { OnErr result (seen self.new ≡ seen self.old) }
         ensures spent { IfOk result (Spends (room self.old) (room self.new)) }
         ensures unspent { OnErr result (room self.new ≡ room self.old) }
-        ensures some { TakesSome (counts self.old).saying (counts self.new).saying (seen self.old) (seen self.new) bytes.now result }
+        ensures some { TakesSome (counts self.old).saying (counts self.new).saying
+            (seen self.old) (seen self.new) bytes.now result }
         ensures cause { HasCause (counts self.old).saying (counts self.new).saying result }
         ensures others { OnlySaying (counts self.old) (counts self.new) };
 
@@ -106,7 +108,8 @@ pub trait Desk {
         ensures err { OnErr result (seen self.new ≡ seen self.old) }
         ensures spent { IfOk result (Spends (room self.old) (room self.new)) }
         ensures unspent { OnErr result (room self.new ≡ room self.old) }
-        ensures some { TakesSome (counts self.old).complaining (counts self.new).complaining (seen self.old) (seen self.new) bytes.now result }
+        ensures some { TakesSome (counts self.old).complaining (counts self.new).complaining
+            (seen self.old) (seen self.new) bytes.now result }
         ensures cause { HasCause (counts self.old).complaining (counts self.new).complaining result }
         ensures others { OnlyComplaining (counts self.old) (counts self.new) };
 

@@ -2,8 +2,8 @@
 ghost use Rattle.std.specs.Prelude.{◌≡◌, ◌<◌, ◌-◌, ◌+◌, ◌++◌, ◌==◌, ◌&&◌, not, min, List, [], take, drop, length, Some, None, is_some, is_ok, refl, option_copied, if◌then◌else◌, IsTrue, IsErr, IfOk, OnOk, OnErr};
 ghost use Rattle.std.specs.List.{list_any};
 ghost use Rattle.std.specs.List.Sorted.{IsStrictlyIncreasing};
-ghost use Rattle.std.specs.FinMap.{empty, get};
-ghost use Rattle.desk.specs.Seen.{ReadsFrom, content, with_file, appended, with_said, with_complained};
+ghost use Rattle.std.specs.FinMap.{get};
+ghost use Rattle.desk.specs.Seen.{ReadsFrom, nothing, content, with_file, appended, with_said, with_complained};
 ghost use Rattle.desk.specs.Faults.{HasCause, no_faults};
 ghost use Rattle.desk.specs.Memory.{raised, is_listed, done, failed, refused, reading_raised, writing_raised, saying_raised, complaining_raised};
 
@@ -39,7 +39,14 @@ impl Model for MemoryDesk {
 
     ghost coded = { memory_code };
 
-    ghost view = { λ d. record { seen = record { files = d.folder; said = d.said.items; complained = d.complained.items }; step = d.step; failing = d.failing.items; calls = d.calls; starved = d.starved; faults = d.faults } };
+    ghost view = { λ d. record {
+      seen = record { files = d.folder; said = d.said.items; complained = d.complained.items };
+      step = d.step;
+      failing = d.failing.items;
+      calls = d.calls;
+      starved = d.starved;
+      faults = d.faults;
+    } };
 
     ghost invariant = { λ d. (0 < d.step) × IsStrictlyIncreasing d.failing.items };
 }
@@ -76,7 +83,8 @@ impl MemoryDesk {
     pub fn new(alloc: Global, step: usize, failing: &[u64]) -> Result<Self, Memory>
         requires step { 0 < step }
         requires ascend { IsStrictlyIncreasing failing.now }
-        ensures { IfOk result (λ d. d ≡ record { seen = record { files = empty; said = []; complained = [] }; step = step; failing = failing.now; calls = 0; starved = 0; faults = no_faults }) }
+        ensures { IfOk result (λ d. d
+            ≡ record { seen = nothing; step = step; failing = failing.now; calls = 0; starved = 0; faults = no_faults }) }
     {
         let failing = Vec::from_slice(alloc, failing)?;
         Ok(MemoryDesk {

@@ -1,7 +1,7 @@
 // A desk in memory that was reserved before, whose calls never fail.
 ghost use Rattle.std.specs.Prelude.{◌≡◌, ◌<◌, ◌≤◌, ◌-◌, ◌+◌, ◌++◌, min, List, [], take, drop, length, Some, Ok, refl, option_copied, IsOk, IfOk, OnOk, OnErr};
-ghost use Rattle.std.specs.FinMap.{empty, get};
-ghost use Rattle.desk.specs.Seen.{ReadsFrom, content, with_file, appended, with_said, with_complained};
+ghost use Rattle.std.specs.FinMap.{get};
+ghost use Rattle.desk.specs.Seen.{ReadsFrom, nothing, content, with_file, appended, with_said, with_complained};
 ghost use Rattle.desk.specs.Room.{cost_in};
 ghost use Rattle.desk.specs.Faults.{no_faults};
 ghost use Rattle.desk.specs.Never.{spent};
@@ -33,16 +33,22 @@ impl Model for NeverFails {
 
     ghost coded = { never_code };
 
-    ghost view = { λ d. record { seen = record { files = d.arena.files; said = d.said.items; complained = d.complained.items }; step = d.step; room = d.arena.room } };
+    ghost view = { λ d. record {
+      seen = record { files = d.arena.files; said = d.said.items; complained = d.complained.items };
+      step = d.step;
+      room = d.arena.room;
+    } };
 
-    ghost invariant = { λ d. (0 < d.step) × (vec_len d.said + d.arena.room ≤ vec_capacity d.said) × (vec_len d.complained + d.arena.room ≤ vec_capacity d.complained) };
+    ghost invariant = { λ d. (0 < d.step)
+        × (vec_len d.said + d.arena.room ≤ vec_capacity d.said)
+        × (vec_len d.complained + d.arena.room ≤ vec_capacity d.complained) };
 }
 
 impl NeverFails {
     /// A desk without names, whose calls take and give at most `step` bytes, with room for `room` bytes.
     pub fn new(alloc: Global, step: usize, room: usize) -> Result<Self, Memory>
         requires { 0 < step }
-        ensures { IfOk result (λ d. d ≡ record { seen = record { files = empty; said = []; complained = [] }; step = step; room = room }) }
+        ensures { IfOk result (λ d. d ≡ record { seen = nothing; step = step; room = room }) }
     {
         let arena = Arena::new(alloc, room)?;
         let said = Vec::with_capacity(alloc, room)?;
@@ -130,7 +136,8 @@ impl Desk for NeverFails {
         requires { cost_in self.old.seen.files name.now + length bytes.now ≤ self.old.room }
         ensures count { result ≡ Ok (min self.old.step (length bytes.now)) }
         ensures some { IfOk result (λ n. 0 < length bytes.now → 0 < n) }
-        ensures after { IfOk result (λ n. self.new ≡ spent (appended name.now (take n bytes.now)) (cost_in self.old.seen.files name.now + n) self.old) }
+        ensures after { IfOk result (λ n. self.new
+            ≡ spent (appended name.now (take n bytes.now)) (cost_in self.old.seen.files name.now + n) self.old) }
     {
         let piece = first_of(bytes, self.step);
         self.arena.append(name, piece);

@@ -1,4 +1,4 @@
-use Rattle.std.proofs.Common.{◌≡◌, ◌+◌, ◌*◌, [], length, arith}
+use Rattle.std.proofs.Common.{◌≡◌, ◌*◌, [], length, arith}
 use Rattle.desk.specs.Room.{cost_of, HasRoom}
 use Rattle.desk.proofs.Rooms.{has_less, room_left, cost-with_file}
 use Rattle.desk.proofs.tests.pass_on.Goals as goal
