@@ -7,8 +7,14 @@ ghost use Rattle.std.specs.Prelude.{◌≡◌, ℕ, ◌*◌, ◌+◌, ◌^◌, �
 ghost use Rattle.plane.specs.Plane.{up2_of};
 
 mod memory;
+mod nm;
+mod read;
+mod write;
 
 pub use memory::Memory;
+pub use nm::Nm;
+pub use read::{NumFault, one_fault, one_length, read_mm};
+pub use write::{MmText, write_mm};
 
 /// A plain pair of whole numbers. Each user says its unit.
 #[derive(Clone, Copy, PartialEq, Eq, Debug)]
