@@ -1,5 +1,5 @@
 -- A number that is read digit by digit, where all above a most one count as one.
-use Rattle.std.proofs.Common.{◌≡◌, ℕ, ◌+◌, ◌-◌, ◌*◌, ◌<◌, ◌≤◌, List, [], ◌∷◌, ◌++◌, length, get_or, drop, refl, sym, ap, ◌∙◌, arith, min}
+use Rattle.std.proofs.Common.{◌≡◌, ℕ, ◌+◌, ◌-◌, ◌*◌, ◌<◌, List, [], ◌∷◌, ◌++◌, length, get_or, drop, refl, sym, ap, ◌∙◌, arith, min}
 use Rattle.std.proofs.lemmas.List.{at_drop_more}
 use Rattle.grid_num.specs.Spelling.{number_after}
 

@@ -1,10 +1,9 @@
 -- A text has at most one sign, whole digits and fraction: they are cut at the first byte that is no digit.
-use Rattle.std.proofs.Common.{◌≡◌, ℕ, zero, suc, ◌+◌, ◌<◌, ◌≤◌, Bool, true, false, cond, ◌||◌, ◌⊎◌, inl, inr, eqb, List, [], ◌∷◌, ◌++◌, length, get_or, take, drop, refl, sym, ap, ◌∙◌, subst, arith, All}
-use Rattle.std.specs.List.{prefix_len}
+use Rattle.std.proofs.Common.{◌≡◌, ℕ, suc, ◌+◌, ◌<◌, ◌≤◌, Bool, true, false, cond, ◌||◌, inl, inr, eqb, List, [], ◌∷◌, ◌++◌, length, get_or, take, drop, refl, sym, ap, ◌∙◌, subst, arith, All}
 use Rattle.std.specs.Char.{IsAsciiDigit, is_ascii_digit}
 use Rattle.std.proofs.lemmas.Bool.{eqb-true, false≢true}
 use Rattle.std.proofs.lemmas.Bool.Decides.{nat_tests}
-use Rattle.std.proofs.lemmas.List.{take_at, drop_at, nil_from_length, append-nil, take-append-drop}
+use Rattle.std.proofs.lemmas.List.{take_at, drop_at, take-append-drop}
 use Rattle.std.proofs.lemmas.List.Elements.{All-head, All-tail, All-nil, All-cons}
 use Rattle.grid_num.specs.Spelling.{IsSign, IsPoint, IsSpelling, SpellsNone}
 use Rattle.grid_num.specs.Parts.{begins_with, unsigned_of, digit_count, whole_of, after_point, fraction_of}
@@ -167,7 +166,7 @@ cut_spells text unsigned whole rest fraction count negative c n digits some =
     let w : whole ≡ whole_of text = cut_whole text unsigned whole rest fraction count c in
     let f : fraction ≡ fraction_of text = cut_fraction text unsigned whole rest fraction count c in
     let s : IsSpelling text (begins_with text 45) (whole_of text) (fraction_of text) =
-        parts_spell text (subst (All IsAsciiDigit) f digits) (omega (arith, some, ap length w, ap length f)) in
+    parts_spell text (subst (All IsAsciiDigit) f digits) (omega (arith, some, ap length w, ap length f)) in
     rw (n, w, f) s
 
 pub cut_none : (text unsigned whole rest fraction : List ℕ) (count : ℕ) → IsCut text unsigned whole rest fraction count

@@ -1,40 +1,20 @@
 -- The digits of small numbers.
-use Rattle.std.proofs.Common.{◌≡◌, ℕ, zero, suc, ◌+◌, ◌-◌, ◌*◌, ◌/◌, ◌%◌, ◌^◌, ◌<◌, ◌≤◌, ◌⊎◌, inl, inr, cond, eqb, List, [], ◌∷◌, ◌++◌, length, map, refl, sym, ap, ◌∙◌, arith, append_assoc}
-use Rattle.std.specs.Int.Digits.{digits_of}
-use Rattle.std.proofs.lemmas.Int.Digits.{digits_of_step}
+use Rattle.std.proofs.Common.{◌≡◌, ℕ, ◌+◌, ◌/◌, ◌%◌, ◌<◌, ◌≤◌, ◌⊎◌, inl, inr, List, [], ◌∷◌, ◌++◌, decimal, refl, sym, ap, ◌∙◌, arith, append_assoc}
+use Rattle.std.proofs.lemmas.Fmt.{decimal_digit, decimal_step}
 use Rattle.std.proofs.lemmas.Bool.{ne_eqb}
 use Rattle.std.proofs.lemmas.List.{append-nil}
-use Rattle.grid_num.specs.Written.{decimal, last_places, with_point}
-
-one_digit : (n : ℕ) → 0 < n → n < 10 → digits_of 10 n ≡ n ∷ []
-one_digit n low high =
-    let q : n / 10 ≡ 0 = omega arith in
-    let r : n % 10 ≡ n = omega arith in
-    digits_of_step 10 n (omega arith) low ∙ rw (q, r) refl
-
-two_digits : (n : ℕ) → 10 ≤ n → n < 100 → digits_of 10 n ≡ n / 10 ∷ n % 10 ∷ []
-two_digits n low high =
-    digits_of_step 10 n (omega arith) (omega arith) ∙ rw (one_digit (n / 10) (omega arith) (omega arith)) refl
-
-three_digits : (n : ℕ) → 100 ≤ n → n < 1000 → digits_of 10 n ≡ n / 100 ∷ n / 10 % 10 ∷ n % 10 ∷ []
-three_digits n low high =
-    let q : n / 10 / 10 ≡ n / 100 = omega arith in
-    digits_of_step 10 n (omega arith) (omega arith) ∙ rw (two_digits (n / 10) (omega arith) (omega arith), q) refl
-
-above_zero : (n : ℕ) → 0 < n → decimal n ≡ map (λ digit. 48 + digit) (digits_of 10 n)
-above_zero n h = rw (ne_eqb n 0 (λ e. omega arith)) refl
+use Rattle.grid_num.specs.Written.{last_places, with_point}
 
 decimal_one : (n : ℕ) → n < 10 → decimal n ≡ (48 + n % 10) ∷ []
-decimal_one zero h = refl
-decimal_one (suc n) h = above_zero (suc n) (omega arith) ∙ rw (one_digit (suc n) (omega arith) h) (ap (λ d. d ∷ []) (omega arith))
+decimal_one n h = let r : n ≡ n % 10 = omega arith in decimal_digit n h ∙ ap (λ d. (48 + d) ∷ []) r
 
 decimal_two : (n : ℕ) → 10 ≤ n → n < 100 → decimal n ≡ (48 + n / 10 % 10) ∷ (48 + n % 10) ∷ []
-decimal_two n low high =
-    let q : n / 10 ≡ n / 10 % 10 = omega arith in
-    above_zero n (omega arith) ∙ ap (map (λ digit. 48 + digit)) (two_digits n low high) ∙ ap (λ d. (48 + d) ∷ (48 + n % 10) ∷ []) q
+decimal_two n low high = decimal_step n low (omega arith) ∙ ap (λ ds. ds ++ (48 + n % 10) ∷ []) (decimal_one (n / 10) (omega arith))
 
 decimal_three : (n : ℕ) → 100 ≤ n → n < 1000 → decimal n ≡ (48 + n / 100) ∷ (48 + n / 10 % 10) ∷ (48 + n % 10) ∷ []
-decimal_three n low high = above_zero n (omega arith) ∙ ap (map (λ digit. 48 + digit)) (three_digits n low high)
+decimal_three n low high =
+    let q : n / 10 / 10 % 10 ≡ n / 100 = omega arith in
+    decimal_step n (omega arith) (omega arith) ∙ ap (λ ds. ds ++ (48 + n % 10) ∷ []) (decimal_two (n / 10) (omega arith) (omega arith)) ∙ ap (λ d. (48 + d) ∷ (48 + n / 10 % 10) ∷ (48 + n % 10) ∷ []) q
 
 -- a number below 1000 is written digit by digit, with none before the first
 pub put_digits : (n : ℕ) (old first second : List ℕ) → n < 1000

@@ -1,6 +1,6 @@
 -- A text has one meaning at most: a length, or one fault.
-use Rattle.std.proofs.Common.{◌≡◌, ℕ, ◌+◌, ◌<◌, ◌≤◌, Bool, List, ◌++◌, refl, sym, ap, ◌∙◌, subst, arith, ℤ, min}
-use Rattle.grid_num.specs.Spelling.{IsSpelling, SpellsNone, number, number_after}
+use Rattle.std.proofs.Common.{◌≡◌, ℕ, ◌≤◌, Bool, List, refl, sym, ap, ◌∙◌, subst, arith, ℤ, min}
+use Rattle.grid_num.specs.Spelling.{IsSpelling, number, number_after}
 use Rattle.grid_num.specs.Length.{IsLength, IsWholeNm, nanometres, places, with_sign}
 use Rattle.grid_num.specs.Faults.{HasFault, SpellsTooFine, SpellsBeyond}
 use Rattle.grid_num.specs.declared.read.NumFault.{NumFault}

@@ -1,13 +1,8 @@
 -- How a length is written: the shortest spelling that has a digit before the point.
-use Rattle.std.specs.Prelude.{◌≡◌, ℕ, zero, suc, ◌+◌, ◌*◌, ◌/◌, ◌%◌, ◌^◌, ◌<◌, ◌⊎◌, ◌==◌, if◌then◌else◌, List, [], ◌∷◌, ◌++◌, length, map, ℤ, pos, negsuc}
-use Rattle.std.specs.Int.Digits.{digits_of}
+use Rattle.std.specs.Prelude.{◌≡◌, ℕ, zero, suc, ◌+◌, ◌/◌, ◌%◌, ◌^◌, ◌<◌, ◌⊎◌, ◌==◌, if◌then◌else◌, List, [], ◌∷◌, ◌++◌, length, decimal, ℤ, pos, negsuc}
 use Rattle.grid_num.specs.Length.{IsLength}
 
--- a whole number in decimal digits, with no zero before the others
-abbrev pub decimal : ℕ → List ℕ
-decimal n = if n == 0 then 48 ∷ [] else map (λ digit. 48 + digit) (digits_of 10 n)
-
--- the last k decimal places of which n is left: up to the last one that isn't 0
+-- The last k of the decimal places of a number, of which n is left: up to the last one that isn't 0.
 abbrev pub last_places : ℕ → ℕ → List ℕ
 last_places zero n = []
 last_places (suc k) n = if n == 0 then [] else (48 + n / 10 ^ k) ∷ last_places k (n % 10 ^ k)

@@ -190,12 +190,10 @@ pub fn read_mm(text: &[u8]) -> Result<Nm, NumFault>
 /// A text spells one length at most.
 pub fn one_length()
     ensures { (text : List ℕ) (nm other : ℤ) → IsLength text nm → IsLength text other → nm ≡ other }
-{
-}
+{}
 
 /// A text has one fault at most, and it spells no length where it has one.
 pub fn one_fault()
     ensures one { (text : List ℕ) (fault other : NumFault) → HasFault text fault → HasFault text other → fault ≡ other }
     ensures no_length { (text : List ℕ) (fault : NumFault) (nm : ℤ) → HasFault text fault → IsLength text nm → ⊥ }
-{
-}
+{}

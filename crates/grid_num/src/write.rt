@@ -1,6 +1,7 @@
 // Writes a length in millimetres.
-ghost use Rattle.std.specs.Prelude.{◌≡◌, ℕ, suc, ◌+◌, ◌*◌, ◌^◌, ◌<◌, ◌≤◌, ◌++◌, ◌∷◌, [], length};
-ghost use Rattle.grid_num.specs.Written.{mm_of, decimal, with_point, last_places, IsShortest};
+ghost use Rattle.std.specs.Prelude.{◌≡◌, ℕ, ℤ, suc, ◌+◌, ◌*◌, ◌^◌, ◌<◌, ◌≤◌, ◌++◌, ◌∷◌, [], length, decimal};
+ghost use Rattle.grid_num.specs.Length.{IsInRange};
+ghost use Rattle.grid_num.specs.Written.{mm_of, with_point, last_places, IsShortest};
 
 use crate::nm::Nm;
 use std::marker::Model;
@@ -113,16 +114,31 @@ fn put_places(millionths: u64, into: &mut MmText)
     put_place(left, 1, into);
 }
 
-/// Writes a length in millimetres by its shortest spelling that has a digit before the point.
-pub fn write_mm(value: Nm, into: &mut MmText)
-    ensures text { into.new ≡ mm_of value }
+/// The written length is the shortest of the spellings that have a digit before the point, and no other is as short.
+pub fn shortest_spelling()
+    ensures { (nm : ℤ) → IsInRange nm → IsShortest (mm_of nm) nm }
+{}
+
+/// Writes so many nanometres into an empty text.
+fn put_length(nm: i64, into: &mut MmText)
+    requires range { IsInRange nm }
+    requires empty { into.old ≡ [] }
+    ensures { into.new ≡ mm_of nm }
 {
-    into.clear();
-    let nm = value.get();
     if nm < 0 {
         into.put(b'-');
     }
     let size = nm.unsigned_abs();
     put_whole(size / 1_000_000, into);
     put_places(size % 1_000_000, into);
+}
+
+/// Writes a length in millimetres, in place of what the text was: its shortest spelling with a digit before the point.
+/// It is read as the same length.
+pub fn write_mm(value: Nm, into: &mut MmText)
+    ensures text { into.new ≡ mm_of value }
+    ensures shortest { IsShortest into.new value }
+{
+    into.clear();
+    put_length(value.get(), into);
 }

@@ -1,4 +1,4 @@
-use Rattle.std.proofs.Common.{◌≡◌, ℕ, ◌-◌, ◌↔◌, Bool, List, IsTrue, All, length, take, drop, min, arith, sym, ◌∙◌, ap, subst}
+use Rattle.std.proofs.Common.{◌≡◌, ℕ, ◌-◌, ◌↔◌, List, IsTrue, All, length, take, drop, min, arith, ◌∙◌, ap, subst}
 use Rattle.std.proofs.lemmas.List.{take_rest, drop_min}
 use Rattle.grid_num.proofs.read.is_whole_nm.Goals as goal
 

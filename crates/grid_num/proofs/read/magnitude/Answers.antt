@@ -1,4 +1,3 @@
-use Rattle.std.proofs.Common.{◌≡◌, arith}
 use Rattle.grid_num.proofs.Meanings.{capped_size}
 use Rattle.grid_num.proofs.read.magnitude.Goals as goal
 

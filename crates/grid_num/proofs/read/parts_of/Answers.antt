@@ -1,5 +1,4 @@
-use Rattle.std.proofs.Common.{◌≡◌, List, ℕ}
-use Rattle.grid_num.proofs.Cutting.{IsCut, cut_spells, cut_none}
+use Rattle.grid_num.proofs.Cutting.{cut_spells, cut_none}
 use Rattle.grid_num.proofs.read.parts_of.Goals as goal
 
 pub returns-then-not-is_spelt-clause-none : goal.returns-then-not-is_spelt-clause-none

@@ -1,8 +1,8 @@
-use Rattle.std.proofs.Common.{◌≡◌, ◌∙◌, ap, true, false, arith, min}
+use Rattle.std.proofs.Common.{◌∙◌, ap, arith}
 use Rattle.grid_num.specs.Length.{with_sign}
 use Rattle.std.proofs.lemmas.Bool.{iff_false}
 use Rattle.grid_num.proofs.Meanings.{fault_or_length, no_length}
-use Rattle.grid_num.specs.declared.read.NumFault.TheVariants.{NotANumber, OutOfRange}
+use Rattle.grid_num.specs.declared.read.NumFault.TheVariants.{NotANumber}
 use Rattle.grid_num.proofs.read.read_mm.Goals as goal
 
 pub returns-in_default-clause-none : goal.returns-in_default-clause-none

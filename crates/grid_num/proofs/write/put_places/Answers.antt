@@ -1,4 +1,4 @@
-use Rattle.std.proofs.Common.{refl, ◌∙◌, arith}
+use Rattle.std.proofs.Common.{refl, ◌∙◌}
 use Rattle.grid_num.proofs.Decimals.{put_point}
 use Rattle.grid_num.proofs.write.put_places.Goals as goal
 
