@@ -1,5 +1,5 @@
 -- The place and the kind of a text's fault.
-use Rattle.std.specs.Prelude.{◌≡◌, ℕ, ◌+◌, ◌<◌, ◌≤◌, Bool, true, false, ◌==◌, ◌&&◌, ◌||◌, not, nat_lt, List, [], ◌∷◌, ◌++◌, length, take, find, slice_get, Option, Some, None, if◌then◌else◌}
+use Rattle.std.specs.Prelude.{◌≡◌, ℕ, ◌+◌, ◌≤◌, Bool, true, false, ◌==◌, ◌&&◌, ◌||◌, not, nat_lt, List, [], ◌∷◌, ◌++◌, length, take, find, slice_get, Option, Some, None, if◌then◌else◌}
 use Rattle.std.specs.Str.{IsUtf8}
 use Rattle.sexpr_text.specs.Grammar.{Forest, Spelt, is_space}
 use Rattle.sexpr_text.specs.Grammar.Forest.{Nil, Word, Text, Group}
@@ -8,16 +8,12 @@ use Rattle.sexpr_text.specs.declared.error.TextKind.TheVariants.{Empty, BadStrin
 use Rattle.sexpr_text.specs.declared.error.TextError.{TextError}
 use Rattle.sexpr_text.specs.declared.error.TextError.TheVariants.{Memory, Bad}
 
--- these bytes begin some text
-pub record BeginsText (bytes : List ℕ) : Type 0 where
-  pub more : List ℕ
-  pub tree : Forest
-  pub spelt : Spelt (bytes ++ more) tree
-
 -- the first n bytes begin some text
 pub record IsFront (bytes : List ℕ) (n : ℕ) : Type 0 where
   pub within : n ≤ length bytes
-  pub begun : BeginsText (take n bytes)
+  pub more : List ℕ
+  pub tree : Forest
+  pub spelt : Spelt (take n bytes ++ more) tree
 
 -- these bytes begin some UTF-8
 abbrev pub IsUtf8Front : List ℕ → Type 0
@@ -65,6 +61,9 @@ is_row kind anywhere byte = false
 abbrev pub rows : List TextKind
 rows = Empty ∷ BadString ∷ Unclosed ∷ StrayClose ∷ NotList ∷ After ∷ TooDeep ∷ BadUtf8 ∷ []
 
+abbrev pub first_row : Where → Option ℕ → Option TextKind
+first_row place byte = find (λ kind. is_row kind place byte) rows
+
 -- the longest front that begins some text ends here, and the whole is no text
 pub record IsPlace (bytes : List ℕ) (at : ℕ) : Type 0 where
   pub front : IsFront bytes at
@@ -74,7 +73,7 @@ pub record IsPlace (bytes : List ℕ) (at : ℕ) : Type 0 where
 -- A text's fault. Where its place lies is seen in any text that begins as this one does up to there; all agree in it.
 pub record IsFault (bytes : List ℕ) (at : ℕ) (kind : TextKind) : Type 0 where
   pub place : IsPlace bytes at
-  pub of_kind : find (λ row. is_row row (where_in at place.front.begun.tree) (slice_get bytes at)) rows ≡ Some kind
+  pub of_kind : first_row (where_in at place.front.tree) (slice_get bytes at) ≡ Some kind
 
 -- a refusal of a text tells its fault
 abbrev pub IsRefused : List ℕ → TextError → Type 0

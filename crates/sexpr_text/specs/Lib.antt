@@ -3,4 +3,9 @@ pub mod Items
 pub mod Flat
 pub mod Trees
 pub mod Faults
+pub mod Built
 pub mod Storage
+pub mod Run
+pub mod Spot
+pub mod Cut
+pub mod Seen

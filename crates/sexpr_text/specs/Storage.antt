@@ -10,13 +10,14 @@ shown numbers n = record { kind = n.kind; from = n.from; to = n.to; children = s
 abbrev pub all_shown : List ℕ → List Node → List Shown
 all_shown numbers nodes = map (shown numbers) nodes
 
--- the ranges lie in the common list, and all its numbers are numbers of nodes
-pub record IsStored (nodes : List Node) (numbers : List ℕ) : Type 0 where
-  pub few : length nodes ≤ 2 ^ 32
-  pub ranges : All (λ n. n.children_end ≤ length numbers) nodes
-  pub below : All (λ id. id < length nodes) numbers
+-- a node's range lies in the common list
+pub record IsRange (numbers : List ℕ) (n : Node) : Type 0 where
+  pub order : n.first_child ≤ n.children_end
+  pub within : n.children_end ≤ length numbers
 
--- the nodes so far, and the numbers of those that no list has taken yet
-pub record Built : Type 0 where
-  pub nodes : List Shown
-  pub waiting : List ℕ
+-- The ranges lie in the common list. All its numbers, and all that wait for their list's end, are numbers of nodes.
+pub record IsStored (nodes : List Node) (numbers waiting : List ℕ) : Type 0 where
+  pub few : length nodes ≤ 2 ^ 32
+  pub ranges : All (IsRange numbers) nodes
+  pub below : All (λ id. id < length nodes) numbers
+  pub waits : All (λ id. id < length nodes) waiting

@@ -1,5 +1,5 @@
 -- The tree of a text, as its nodes, and where its items lie.
-use Rattle.std.specs.Prelude.{◌≡◌, ℕ, ◌+◌, ◌-◌, ◌<◌, ◌≤◌, List, [], ◌∷◌, length}
+use Rattle.std.specs.Prelude.{◌≡◌, ℕ, ◌<◌, ◌≤◌, List, [], ◌∷◌, length}
 use Rattle.sexpr_text.specs.Grammar.{Items, Spelt}
 use Rattle.sexpr_text.specs.Grammar.Forest.{Nil, Group}
 use Rattle.sexpr_text.specs.Items.{Item, forest_of}

@@ -3,11 +3,18 @@
 //! Places are numbers of bytes from the start of the text.
 #![tactic(auto)]
 
+mod content;
+mod cut;
 mod error;
 mod laws;
 mod reader;
+mod scan;
+mod stand;
 mod store;
+#[cfg(test)]
+mod tests;
 mod tree;
+mod walk;
 
 pub use error::{TextError, TextFault, TextKind};
 pub use laws::{

@@ -5,6 +5,7 @@ ghost use Rattle.sexpr_text.specs.Flat.{IsNode, AreNodes, IsNodeOrNone};
 ghost use Rattle.sexpr_text.specs.Trees.{IsTreeAt, IsTreeOf};
 ghost use Rattle.sexpr_text.specs.declared.Span.{Span};
 
+use crate::content::unescape;
 use crate::store::Node;
 use crate::{NodeId, NodeKind, Span};
 use grid_num::Memory;
@@ -14,12 +15,12 @@ use std::marker::Model;
 /// The tree of a text: a flat list of nodes, each list behind its items.
 #[derive(Drop)]
 pub struct Tree {
-    nodes: Vec<Node>,
-    children: Vec<u32>,
+    pub(crate) nodes: Vec<Node>,
+    pub(crate) children: Vec<u32>,
 }
 
 impl Model for Tree {
-    ghost use Rattle.std.specs.Prelude.{◌<◌, List, length};
+    ghost use Rattle.std.specs.Prelude.{◌<◌, List, [], length};
     ghost use Rattle.sexpr_text.specs.Flat.{Shown};
 
     ghost Value = { List Shown };
@@ -28,7 +29,7 @@ impl Model for Tree {
 
     ghost view = { λ t. all_shown t.children.items t.nodes.items };
 
-    ghost invariant = { λ t. (0 < length t.nodes.items) × IsStored t.nodes.items t.children.items };
+    ghost invariant = { λ t. (0 < length t.nodes.items) × IsStored t.nodes.items t.children.items [] };
 }
 
 impl Tree {
@@ -81,8 +82,8 @@ impl Tree {
         ensures node { IfSome (slice_get self.now id) (λ n. result.now ≡ slice_range bytes.now n.from n.to) }
         ensures item { (item : Item) → IsNode self.now id item → result.now ≡ slice_range bytes.now item.from item.to }
     {
-        let node = self.nodes[id as usize];
-        &bytes[node.from as usize..node.to as usize]
+        let span = self.span(id);
+        &bytes[span.from..span.to]
     }
 
     /// The head of a list: where its first child stands, if that is a word.
@@ -92,9 +93,12 @@ impl Tree {
         ensures item { (item : Item) → IsNode self.now id item → result ≡ head_of item }
         ensures within { IfSome result (λ s. (s.from < s.to) × (s.to ≤ length bytes.now)) }
     {
-        let first = *self.children(id).first()?;
-        match self.kind(first) {
-            NodeKind::Word => Some(self.span(first)),
+        let children = self.children(id);
+        let Some(first) = children.first() else {
+            return None;
+        };
+        match self.kind(*first) {
+            NodeKind::Word => Some(self.span(*first)),
             NodeKind::List | NodeKind::Text => None,
         }
     }
@@ -118,7 +122,8 @@ impl Tree {
         ensures item { (item : Item) → IsNode self.now id item → IsNodeOrNone self.now result (find (is_headed bytes.now name.now) (children_of item)) }
         ensures below { IfSome result (λ found. found < length self.now) }
     {
-        for child in self.children(id) {
+        let children = self.children(id);
+        'each: for child in children {
             if self.is_headed(bytes, *child, name) {
                 return Some(*child);
             }
@@ -134,7 +139,11 @@ impl Tree {
         ensures node { IfOk result (λ v. IfSome (slice_get self.now id) (λ n. v.items ≡ content_at n.kind bytes.now n.from n.to)) }
         ensures item { IfOk result (λ v. (item : Item) → IsNode self.now id item → v.items ≡ content_of bytes.now item) }
     {
-        let _ = alloc;
-        Err(Memory)
+        let span = self.span(id);
+        match self.kind(id) {
+            NodeKind::Text => unescape(alloc, &bytes[span.from + 1..span.to - 1]),
+            NodeKind::Word => Ok(Vec::from_slice(alloc, &bytes[span.from..span.to])?),
+            NodeKind::List => unreachable!(),
+        }
     }
 }

@@ -1,0 +1,5 @@
+use Rattle.sexpr_text.proofs.Whole.{one_tree}
+use Rattle.sexpr_text.proofs.laws.one_tree.Goals as goal
+
+pub returns : goal.returns
+returns c = one_tree

@@ -1,0 +1,47 @@
+-- What the walk to a fault keeps, as its code keeps it, and the kinds that it tells.
+use Rattle.std.specs.Prelude.{ℕ, zero, suc, ◌≤◌, ◌==◌, ◌||◌, not, cond, Option, Some, None}
+use Rattle.sexpr_text.specs.Grammar.{is_space}
+use Rattle.sexpr_text.specs.Cut.{Cut}
+use Rattle.sexpr_text.specs.Cut.Cut.{Full, Next, Broken}
+use Rattle.sexpr_text.specs.Spot.{Spot}
+use Rattle.sexpr_text.specs.Spot.Spot.{Before, Inside, Quoted, Behind, Lost}
+use Rattle.sexpr_text.specs.declared.cut.Cutting.{Cutting}
+use Rattle.sexpr_text.specs.declared.cut.Cutting.TheVariants.{Whole, Wants, Bad}
+use Rattle.sexpr_text.specs.declared.stand.Stand.{Stand}
+use Rattle.sexpr_text.specs.declared.stand.Stand.TheVariants.{Start, List, Text, End, Off}
+use Rattle.sexpr_text.specs.declared.error.TextKind.{TextKind}
+use Rattle.sexpr_text.specs.declared.error.TextKind.TheVariants as kinds
+
+abbrev pub seen : Stand → Spot
+seen Start = Before
+seen (List room) = Inside room
+seen (Text room escaped) = Quoted room escaped
+seen End = Behind
+seen Off = Lost
+
+abbrev pub is_room : Stand → Type 0
+is_room (List room) = room ≤ 63
+is_room (Text room escaped) = room ≤ 63
+is_room other = Unit {0}
+
+abbrev pub seen_cut : Cutting → Cut
+seen_cut Whole = Full
+seen_cut (Wants low high left) = Next low high left
+seen_cut Bad = Broken
+
+-- the kind where the input ends, if it is no text
+abbrev pub ended : Spot → Option TextKind
+ended Before = Some kinds.Empty
+ended (Quoted room escaped) = Some kinds.BadString
+ended (Inside room) = Some kinds.Unclosed
+ended Behind = None
+ended Lost = None
+
+-- the kind where this byte can't stand
+abbrev pub refused : Spot → ℕ → TextKind
+refused Before c = cond (c == 41) kinds.StrayClose (cond (not (is_space c || c == 40 || c == 41)) kinds.NotList kinds.BadUtf8)
+refused (Quoted room escaped) c = kinds.BadUtf8
+refused (Inside zero) c = cond (c == 40) kinds.TooDeep kinds.BadUtf8
+refused (Inside (suc room)) c = kinds.BadUtf8
+refused Behind c = cond (not (is_space c)) kinds.After kinds.BadUtf8
+refused Lost c = kinds.BadUtf8

@@ -1,0 +1,36 @@
+-- Where a reader stands in a text, byte by byte: what the walk to a fault keeps.
+use Rattle.std.specs.Prelude.{ℕ, zero, suc, ◌+◌, Bool, true, false, cond, ◌==◌, List, slice_index}
+use Rattle.sexpr_text.specs.Grammar.{is_space}
+
+pub data Spot : Type 0 where
+  -- nothing but white space was read
+  Before : Spot
+  -- inside a list and outside a string; lists may still go room deeper
+  Inside : (room : ℕ) → Spot
+  -- inside a string of such a list; whether the next byte is escaped
+  Quoted : (room : ℕ) (escaped : Bool) → Spot
+  -- the list has ended
+  Behind : Spot
+  -- no text begins so
+  Lost : Spot
+
+abbrev pub opened : ℕ → Spot
+opened zero = Lost
+opened (suc room) = Inside room
+
+-- the outermost list has room for 63 levels more
+abbrev pub closed : ℕ → Spot
+closed room = cond (room == 63) Behind (Inside (room + 1))
+
+abbrev pub step : Spot → ℕ → Spot
+step Before c = cond (is_space c) Before (cond (c == 40) (Inside 63) Lost)
+step (Inside room) c = cond (c == 40) (opened room) (cond (c == 41) (closed room) (cond (c == 34) (Quoted room false) (Inside room)))
+step (Quoted room true) c = Quoted room false
+step (Quoted room false) c = cond (c == 34) (Inside room) (Quoted room (c == 92))
+step Behind c = cond (is_space c) Behind Lost
+step Lost c = Lost
+
+-- the spot behind the first n bytes
+abbrev pub spot : List ℕ → ℕ → Spot
+spot bytes zero = Before
+spot bytes (suc n) = step (spot bytes n) (slice_index bytes n)
