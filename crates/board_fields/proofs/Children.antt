@@ -1,11 +1,13 @@
 -- Walking over the children of a node, beside the items that they are.
 use Rattle.std.proofs.Common.{◌≡◌, ℕ, zero, suc, ◌+◌, ◌<◌, ◌≤◌, ◌↔◌, Bool, true, false, cond, ◌||◌, List, [], ◌∷◌, ◌++◌, length, drop, get_or, filter, refl, sym, ap, ◌∙◌, subst, arith, append_assoc, append-nil, find, Option, Some, None, MatchOption, not, IsTrue, add-one, slice_index, EachIndex, ◌⊎◌, inl, inr, length-append}
 use Rattle.std.specs.List.{AllPass, list_any}
-use Rattle.std.proofs.lemmas.Bool.{false≢true, cases_lt, or_parts, not-false}
+use Rattle.std.proofs.lemmas.Bool.{false≢true, cases_lt, or_parts, or_left, not-false}
 use Rattle.std.proofs.lemmas.List.{drop_all, get_or_append_left, get_or_push}
 use Rattle.std.proofs.lemmas.List.Elements.{All-head, All-tail, All-nil, All-cons}
 use Rattle.sexpr_text.specs.Items.{Item, children_of, is_headed}
-use Rattle.board_fields.specs.Lists.{headed}
+use Rattle.board_fields.specs.Lists.{HasOne, headed, is_string, is_string_kind, the_list}
+use Rattle.sexpr_text.specs.declared.NodeKind.{NodeKind}
+use Rattle.sexpr_text.specs.declared.NodeKind.TheVariants as kinds
 use Rattle.sexpr_text.specs.Flat.{Shown, IsNode, AreNodes, IsNodeOrNone}
 
 -- the child at an index, and the item that it is
@@ -165,12 +167,29 @@ none_found nodes p (x ∷ xs) h = by_first (p x) (none_found nodes p xs) h
     by_first true ih k = absurd k
     by_first false ih k = ih k
 
+one_list : (nodes : List Shown) (list : ℕ) (items : List Item) (d : Item) → AreNodes nodes (list ∷ []) items → (length items ≡ 1) × IsNode nodes list (get_or items 0 d)
+one_list nodes list [] d h = absurd h
+one_list nodes list (item ∷ []) d h = (refl, h.0)
+one_list nodes list (item ∷ other ∷ items) d h = absurd h.1
+
 pub only_one : (nodes : List Shown) (bytes name : List ℕ) (id : ℕ) (found : Option ℕ)
     → ((item : Item) → IsNode nodes id item → IsNodeOrNone nodes found (find (is_headed bytes name) (children_of item)))
     → ((item : Item) → IsNode nodes id item → length (headed bytes name item) ≡ 1)
-    → MatchOption found ((item : Item) → IsNode nodes id item → length (headed bytes name item) ≡ 1 → ⊥) (λ list. (item : Item) → IsNode nodes id item → AreNodes nodes (list ∷ []) (headed bytes name item))
+    → MatchOption found ((item : Item) → IsNode nodes id item → HasOne bytes name item → ⊥) (λ list. (item : Item) → IsNode nodes id item → HasOne bytes name item × IsNode nodes list (the_list bytes name item))
 only_one nodes bytes name id None h one = λ item n e. omega (arith, e, none_found nodes (is_headed bytes name) (children_of item) (h item n))
-only_one nodes bytes name id (Some list) h one = λ item n. only_found nodes (is_headed bytes name) (children_of item) list (h item n) (one item n)
+only_one nodes bytes name id (Some list) h one = λ item n.
+    one_list nodes list (headed bytes name item) item (only_found nodes (is_headed bytes name) (children_of item) list (h item n) (one item n))
+
+-- whether a string stands among the items from an index on
+pub string_here : (nodes : List Shown) (items : List Item) (i j : ℕ) (item : Item) (kind : NodeKind) → drop i items ≡ item ∷ drop j items → kind ≡ item.kind → kind ≡ kinds.Text
+    → list_any is_string (drop i items) ≡ list_any is_string items → true ≡ list_any is_string items
+string_here nodes items i j item kind e k t h =
+    let here : is_string item ≡ true = ap is_string_kind (sym k ∙ t) in
+    sym (ap (list_any is_string) e ∙ or_left (is_string item) (list_any is_string (drop j items)) here) ∙ h
+
+pub string_next : (items : List Item) (i j : ℕ) (item : Item) → drop i items ≡ item ∷ drop j items → is_string item ≡ false
+    → list_any is_string (drop i items) ≡ list_any is_string items → list_any is_string (drop j items) ≡ list_any is_string items
+string_next items i j item e other h = sym (ap (list_any is_string) e ∙ ap (λ b. b || list_any is_string (drop j items)) other) ∙ h
 
 -- numbers below another, and one more
 pub all_below : (xs ys : List ℕ) (x n : ℕ) → EachIndex xs (λ k. slice_index xs k < n) → x < n → ys ≡ xs ++ x ∷ [] → EachIndex ys (λ k. slice_index ys k < n)

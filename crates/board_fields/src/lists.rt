@@ -4,7 +4,7 @@ ghost use Rattle.sexpr_text.specs.Items.{Item, is_headed, children_of};
 ghost use Rattle.sexpr_text.specs.Flat.{IsNode, AreNodes};
 ghost use Rattle.std.specs.List.{list_any};
 ghost use Rattle.sexpr_text.specs.Trees.{IsTreeOf};
-ghost use Rattle.board_fields.specs.Lists.{HasOnly, headed, is_list, lists_of};
+ghost use Rattle.board_fields.specs.Lists.{HasOne, HasOnly, headed, is_list, is_string, lists_of, the_list};
 
 use grid_num::Memory;
 use sexpr_text::{NodeId, NodeKind, Tree};
@@ -33,6 +33,21 @@ pub fn is_list(tree: &Tree, id: NodeId) -> bool
     }
 }
 
+/// Whether a string stands among the children of a node.
+pub fn has_string(tree: &Tree, id: NodeId) -> bool
+    requires { id < length tree.now }
+    ensures { (item : Item) → IsNode tree.now id item → result ≡ list_any is_string (children_of item) }
+{
+    let children = tree.children(id);
+    'each: for child in children {
+        match tree.kind(*child) {
+            NodeKind::Text => return true,
+            NodeKind::List | NodeKind::Word => {}
+        }
+    }
+    false
+}
+
 /// How many child lists have this head.
 pub fn count_of(tree: &Tree, bytes: &[u8], id: NodeId, name: &[u8]) -> usize
     requires below { id < length tree.now }
@@ -53,7 +68,7 @@ pub fn count_of(tree: &Tree, bytes: &[u8], id: NodeId, name: &[u8]) -> usize
 pub fn only_list(tree: &Tree, bytes: &[u8], id: NodeId, name: &[u8]) -> Option<NodeId>
     requires below { id < length tree.now }
     requires same { IsTreeOf bytes.now tree.now }
-    ensures one { MatchOption result ((item : Item) → IsNode tree.now id item → length (headed bytes.now name.now item) ≡ 1 → ⊥) (λ list. (item : Item) → IsNode tree.now id item → AreNodes tree.now (list ∷ []) (headed bytes.now name.now item)) }
+    ensures one { MatchOption result ((item : Item) → IsNode tree.now id item → HasOne bytes.now name.now item → ⊥) (λ list. (item : Item) → IsNode tree.now id item → HasOne bytes.now name.now item × IsNode tree.now list (the_list bytes.now name.now item)) }
     ensures below { IfSome result (λ list. list < length tree.now) }
 {
     if count_of(tree, bytes, id, name) == 1 {
