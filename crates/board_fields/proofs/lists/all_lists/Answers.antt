@@ -1,0 +1,28 @@
+use Rattle.std.proofs.Common.{◌≡◌, ◌∙◌, ◌+◌, ◌++◌, ◌∷◌, [], ◌<◌, ℕ, List, sym, ap, subst, arith, length, get_or, slice_index, EachIndex}
+use Rattle.sexpr_text.specs.Items.{Item, children_of}
+use Rattle.board_fields.specs.Lists.{is_list}
+use Rattle.board_fields.proofs.Children.{Next, Collected, next_child, none_left, collect_yes, collect_no, collect_all, all_below}
+use Rattle.board_fields.proofs.lists.all_lists.Goals as goal
+use Rattle.board_fields.proofs.lists.all_lists.Goals.{then-is_list+in_ok-push, else-is_list}
+
+pub each-preserved : goal.each-preserved
+each-preserved c = record {
+  below = elim c.if-is_list.branch [
+    | then-is_list+in_ok-push w ↦ all_below c.each.lists.items c.if-is_list.lists.items (get_or c.children-children.result.now c.each.child-index 0) (length c.args.tree.now) c.each.invariant.below (c.children-children.ensures.below c.each.child-index c.each-test.true) (ap (λ v. v.items) w.lists-is ∙ w.in_ok-push.ensures.items)
+    | else-is_list w ↦ rw w.lists-is c.each.invariant.below
+  ];
+  collected = λ item h.
+      let ids = c.children-children.result.now in
+      let n : Next c.args.tree.now ids (children_of item) c.each.child-index = next_child c.args.tree.now ids (children_of item) c.each.child-index (c.children-children.ensures.item item h) c.each-test.true in
+      let test = is_list in
+      let old = c.each.invariant.collected item h in
+      elim c.if-is_list.branch [
+        | then-is_list+in_ok-push w ↦ rw (w.lists-is, w.in_ok-push.ensures.items) (collect_yes c.args.tree.now c.each.lists.items test (children_of item) c.each.child-index (c.each.child-index + 1) (get_or ids c.each.child-index 0) n.item n.node n.rest (sym (c.is_list.ensures n.item n.node) ∙ w.if-is_list.true) old)
+        | else-is_list w ↦ rw w.lists-is (collect_no c.args.tree.now c.each.lists.items test (children_of item) c.each.child-index (c.each.child-index + 1) n.item n.rest (sym (c.is_list.ensures n.item n.node) ∙ w.if-is_list.false) old)
+      ];
+}
+
+pub returns-clause-lists : goal.returns-clause-lists
+returns-clause-lists c = λ item h.
+    collect_all c.args.tree.now c.each.lists.items is_list (children_of item) c.each.child-index
+    (none_left c.args.tree.now c.children-children.result.now (children_of item) c.each.child-index (c.children-children.ensures.item item h) c.each-test.false) (c.each.invariant.collected item h)
