@@ -1,8 +1,9 @@
 -- Going over the children of a list, one after another: what a loop over their numbers keeps.
-use Rattle.std.proofs.Common.{◌≡◌, ℕ, ◌+◌, ◌<◌, ◌≤◌, List, [], ◌∷◌, length, drop, get_or, refl, subst, arith, drop-cons, add-one}
+use Rattle.std.proofs.Common.{◌≡◌, ℕ, ◌+◌, ◌<◌, ◌≤◌, List, [], ◌∷◌, length, drop, get_or, refl, sym, subst, arith, drop-cons, add-one, Option, Some, None, slice_get, IfSome}
 use Rattle.std.proofs.lemmas.List.{drop_all}
-use Rattle.sexpr_text.specs.Items.{Item}
-use Rattle.sexpr_text.specs.Flat.{Shown, IsNode, AreNodes}
+use Rattle.sexpr_text.specs.Items.{Item, IsLeaf, IsLeafKind}
+use Rattle.sexpr_text.specs.Flat.{Shown, IsNode, AreNodes, IsNodeOrNone}
+use Rattle.sexpr_text.proofs.Nodes.{node_at}
 
 pub same_length : (nodes : List Shown) (ids : List ℕ) (items : List Item) → AreNodes nodes ids items → length ids ≡ length items
 same_length nodes [] [] h = refl
@@ -34,3 +35,21 @@ none_left nodes ids i items h a = on items (subst (λ xs. AreNodes nodes xs item
     on : (items : List Item) → AreNodes nodes [] items → items ≡ []
     on [] a = refl
     on (item ∷ items) a = absurd a
+
+-- a node that was found, and one that wasn't
+pub record FoundItem (nodes : List Shown) (id : ℕ) (found : Option Item) : Type 0 where
+  pub item : Item
+  pub is_found : found ≡ Some item
+  pub is_node : IsNode nodes id item
+
+pub found_item : (nodes : List Shown) (id : ℕ) (found : Option Item) → IsNodeOrNone nodes (Some id) found → FoundItem nodes id found
+found_item nodes id None h = absurd h
+found_item nodes id (Some item) h = record { item = item; is_found = refl; is_node = h }
+
+pub no_item : (nodes : List Shown) (found : Option Item) → IsNodeOrNone nodes None found → found ≡ None
+no_item nodes None h = refl
+no_item nodes (Some item) h = absurd h
+
+-- the node of a leaf is a leaf
+pub leaf_node : (nodes : List Shown) (id : ℕ) (item : Item) → IsNode nodes id item → IsLeaf item → IfSome (slice_get nodes id) (λ n. IsLeafKind n.kind)
+leaf_node nodes id item h l = subst (λ o. IfSome o (λ n. IsLeafKind n.kind)) (sym (node_at nodes id item h)) l
