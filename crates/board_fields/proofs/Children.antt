@@ -1,5 +1,5 @@
 -- Walking over the children of a node, beside the items that they are.
-use Rattle.std.proofs.Common.{◌≡◌, ℕ, zero, suc, ◌+◌, ◌<◌, ◌≤◌, ◌↔◌, Bool, true, false, cond, ◌||◌, List, [], ◌∷◌, ◌++◌, length, drop, get_or, filter, refl, sym, ap, ◌∙◌, subst, arith, append_assoc, append-nil, find, Option, Some, None, MatchOption, not, IsTrue, add-one, slice_index, EachIndex, ◌⊎◌, inl, inr, length-append}
+use Rattle.std.proofs.Common.{◌≡◌, ℕ, zero, suc, ◌+◌, ◌<◌, ◌≤◌, Bool, true, false, cond, ◌||◌, List, [], ◌∷◌, ◌++◌, length, take, drop, get_or, filter, refl, sym, ap, ◌∙◌, subst, arith, append_assoc, append-nil, find, Option, Some, None, MatchOption, not, add-one, slice_index, EachIndex, ◌⊎◌, inl, inr, length-append}
 use Rattle.std.specs.List.{AllPass, list_any}
 use Rattle.std.proofs.lemmas.Bool.{false≢true, cases_lt, or_parts, or_left, not-false}
 use Rattle.std.proofs.lemmas.List.{drop_all, get_or_append_left, get_or_push}
@@ -15,24 +15,28 @@ record NextAt (nodes : List Shown) (ids : List ℕ) (items : List Item) (i j : �
   item : Item
   node : IsNode nodes (get_or ids i 0) item
   rest : drop i items ≡ item ∷ drop j items
+  front : take j items ≡ take i items ++ item ∷ []
+  at : (d : Item) → get_or items i d ≡ item
 
 next_at : (nodes : List Shown) (ids : List ℕ) (items : List Item) (i : ℕ) → AreNodes nodes ids items → i < length ids → NextAt nodes ids items i (suc i)
 next_at nodes [] items i h low = absurd (omega (arith, low))
 next_at nodes (id ∷ ids) [] i h low = absurd h
-next_at nodes (id ∷ ids) (item ∷ items) zero h low = record { item = item; node = h.0; rest = refl }
+next_at nodes (id ∷ ids) (item ∷ items) zero h low = record { item = item; node = h.0; rest = refl; front = refl; at = λ d. refl }
 next_at nodes (id ∷ ids) (item ∷ items) (suc i) h low =
     let n : NextAt nodes ids items i (suc i) = next_at nodes ids items i h.1 (omega (arith, low)) in
-    record { item = n.item; node = n.node; rest = n.rest }
+    record { item = n.item; node = n.node; rest = n.rest; front = ap (λ xs. item ∷ xs) n.front; at = n.at }
 
 pub record Next (nodes : List Shown) (ids : List ℕ) (items : List Item) (i : ℕ) : Type 0 where
   pub item : Item
   pub node : IsNode nodes (get_or ids i 0) item
   pub rest : drop i items ≡ item ∷ drop (i + 1) items
+  pub front : take (i + 1) items ≡ take i items ++ item ∷ []
+  pub at : (d : Item) → get_or items i d ≡ item
 
 pub next_child : (nodes : List Shown) (ids : List ℕ) (items : List Item) (i : ℕ) → AreNodes nodes ids items → i < length ids → Next nodes ids items i
 next_child nodes ids items i h low =
     let n : NextAt nodes ids items i (suc i) = next_at nodes ids items i h low in
-    record { item = n.item; node = n.node; rest = rw add-one n.rest }
+    record { item = n.item; node = n.node; rest = rw add-one n.rest; front = rw add-one n.front; at = n.at }
 
 pub same_count : (nodes : List Shown) (ids : List ℕ) (items : List Item) → AreNodes nodes ids items → length ids ≡ length items
 same_count nodes [] [] h = refl
@@ -139,6 +143,7 @@ passes_allowed p test items i j item e allowed h = subst (λ xs. AllPass test (f
     by_cases : (kept passes : Bool) → (not kept || passes) ≡ true → kept ≡ true → passes ≡ true
     by_cases true passes a k = a
     by_cases false passes a k = absurd (false≢true k)
+
     here : p item ≡ true → test item ≡ true
     here k = by_cases (p item) (test item) allowed k
 
@@ -153,6 +158,7 @@ only_found nodes p (x ∷ xs) id h one = by_first (p x) (only_found nodes p xs i
     none : (ys : List Item) → length ys ≡ 0 → AreNodes nodes [] ys
     none [] e = tt
     none (y ∷ ys) e = absurd (omega (arith, e))
+
     by_first : (b : Bool) → (IsNodeOrNone nodes (Some id) (find p xs) → length (filter p xs) ≡ 1 → AreNodes nodes (id ∷ []) (filter p xs))
         → IsNodeOrNone nodes (Some id) (cond b (Some x) (find p xs)) → length (cond b (x ∷ filter p xs) (filter p xs)) ≡ 1 → AreNodes nodes (id ∷ []) (cond b (x ∷ filter p xs) (filter p xs))
     by_first true ih k e = (k, none (filter p xs) (omega (arith, e)))

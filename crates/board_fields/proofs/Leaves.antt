@@ -1,8 +1,9 @@
 -- Leaves behind the head, and the texts that they hold.
-use Rattle.std.proofs.Common.{◌≡◌, ℕ, zero, suc, ◌+◌, ◌<◌, ◌≤◌, List, [], ◌∷◌, length, drop, get_or, slice_get, Option, Some, None, refl, sym, ap, ◌∙◌, subst, arith, ℤ, MatchOption}
-use Rattle.std.specs.List.{All}
+use Rattle.std.proofs.Common.{◌≡◌, ℕ, zero, suc, ◌<◌, ◌≤◌, List, [], ◌∷◌, length, drop, get_or, slice_get, Option, Some, None, refl, sym, ap, ◌∙◌, subst, arith, ℤ, MatchOption}
 use Rattle.grid_num.specs.Length.{IsLength}
-use Rattle.sexpr_text.specs.Items.{Item, IsLeaf, IsLeafKind, children_of, content_of}
+use Rattle.grid_num.specs.Spelling.{number}
+use Rattle.grid_num.proofs.Meanings.{one_length_of}
+use Rattle.sexpr_text.specs.Items.{Item, IsLeafKind, content_of}
 use Rattle.sexpr_text.specs.declared.NodeKind.{NodeKind}
 use Rattle.sexpr_text.specs.Flat.{Shown, IsNode, AreNodes}
 use Rattle.board_fields.specs.Values.{HasText, HasWhole, HasLength, IsWhole, behind_head}
@@ -72,3 +73,10 @@ pub leaf_here : (nodes : List Shown) (ids : List ℕ) (id place : ℕ) (kind : N
 leaf_here nodes ids id place kind h low k leaf item node =
     let i : ItemAt nodes ids (behind_head item) place = item_at nodes ids (behind_head item) place (h item node) low in
     record { leaf = i.item; node = i.node; there = i.there; is_leaf = subst IsLeafKind (k i.item i.node) leaf }
+
+pub same_whole : (bytes : List ℕ) (item : Item) (place n m : ℕ) → HasWhole bytes item place n → HasWhole bytes item place m → n ≡ m
+same_whole bytes item place n m h k = sym h.spells.value ∙ ap number (same_text bytes item place h.text k.text h.stands k.stands) ∙ k.spells.value
+
+pub same_length : (bytes : List ℕ) (item : Item) (place : ℕ) (nm other : ℤ) → HasLength bytes item place nm → HasLength bytes item place other → nm ≡ other
+same_length bytes item place nm other h k =
+    one_length_of k.text nm other (subst (λ t. IsLength t nm) (same_text bytes item place h.text k.text h.stands k.stands) h.spells) k.spells

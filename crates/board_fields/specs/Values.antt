@@ -1,5 +1,5 @@
 -- The words, strings and numbers behind the head of an item. Places count from 0.
-use Rattle.std.specs.Prelude.{◌≡◌, ℕ, ◌<◌, ◌^◌, List, length, drop, slice_get, Option, Some, All, ℤ}
+use Rattle.std.specs.Prelude.{◌≡◌, ℕ, ◌<◌, ◌^◌, List, length, drop, slice_get, Some, All, ℤ}
 use Rattle.std.specs.Char.{IsAsciiDigit}
 use Rattle.grid_num.specs.Spelling.{number}
 use Rattle.grid_num.specs.Length.{IsLength}

@@ -9,4 +9,4 @@ mod values;
 pub use lists::{
     all_lists, are_all_headed, count_of, has_string, headed_lists, is_headed, is_list, only_list,
 };
-pub use values::{content_at, count_behind_head, length_at, whole_at};
+pub use values::{content_at, count_behind_head, length_at, one_value, whole_at};

@@ -154,3 +154,11 @@ pub fn length_at(
     };
     Ok(length_of(&text))
 }
+
+/// One text, one whole number and one length at most stand at a place.
+pub fn one_value()
+    ensures text { (bytes : List ℕ) (item : Item) (place : ℕ) (text other : List ℕ) → HasText bytes item place text → HasText bytes item place other → text ≡ other }
+    ensures whole { (bytes : List ℕ) (item : Item) (place n other : ℕ) → HasWhole bytes item place n → HasWhole bytes item place other → n ≡ other }
+    ensures length { (bytes : List ℕ) (item : Item) (place : ℕ) (nm other : ℤ) → HasLength bytes item place nm → HasLength bytes item place other → nm ≡ other }
+{
+}

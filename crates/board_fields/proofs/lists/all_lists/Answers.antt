@@ -1,7 +1,7 @@
-use Rattle.std.proofs.Common.{◌≡◌, ◌∙◌, ◌+◌, ◌++◌, ◌∷◌, [], ◌<◌, ℕ, List, sym, ap, subst, arith, length, get_or, slice_index, EachIndex}
-use Rattle.sexpr_text.specs.Items.{Item, children_of}
+use Rattle.std.proofs.Common.{◌∙◌, ◌+◌, sym, ap, length, get_or}
+use Rattle.sexpr_text.specs.Items.{children_of}
 use Rattle.board_fields.specs.Lists.{is_list}
-use Rattle.board_fields.proofs.Children.{Next, Collected, next_child, none_left, collect_yes, collect_no, collect_all, all_below}
+use Rattle.board_fields.proofs.Children.{Next, next_child, none_left, collect_yes, collect_no, collect_all, all_below}
 use Rattle.board_fields.proofs.lists.all_lists.Goals as goal
 use Rattle.board_fields.proofs.lists.all_lists.Goals.{then-is_list+in_ok-push, else-is_list}
 

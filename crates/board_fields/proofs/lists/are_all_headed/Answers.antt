@@ -1,7 +1,7 @@
-use Rattle.std.proofs.Common.{◌≡◌, ◌∙◌, ◌+◌, sym, ap, arith, true, false, List, ℕ, map, drop, filter, refl, subst}
-use Rattle.std.specs.List.{list_any, AllPass}
+use Rattle.std.proofs.Common.{◌∙◌, ◌+◌, sym, map, refl}
+use Rattle.std.specs.List.{list_any}
 use Rattle.std.proofs.lemmas.Bool.{false≢true}
-use Rattle.sexpr_text.specs.Items.{Item, children_of, is_headed}
+use Rattle.sexpr_text.specs.Items.{children_of, is_headed}
 use Rattle.board_fields.specs.Lists.{is_list}
 use Rattle.board_fields.proofs.Children.{Next, next_child, none_left, fails_allowed, passes_allowed, nothing_passes}
 use Rattle.board_fields.proofs.lists.are_all_headed.Goals as goal

@@ -1,4 +1,4 @@
-use Rattle.std.proofs.Common.{List, ℕ, map, drop, filter}
+use Rattle.std.proofs.Common.{map, drop, filter}
 use Rattle.std.specs.List.{AllPass, list_any}
 use Rattle.sexpr_text.specs.Items.{Item, children_of, is_headed}
 use Rattle.sexpr_text.specs.Flat.{IsNode}

@@ -1,6 +1,5 @@
-use Rattle.std.proofs.Common.{◌≡◌, ◌∙◌, ◌+◌, sym, ap, arith, length, drop, filter}
-use Rattle.sexpr_text.specs.Items.{Item, children_of, is_headed}
-use Rattle.board_fields.specs.Lists.{headed}
+use Rattle.std.proofs.Common.{◌∙◌, ◌+◌, sym, ap, arith, length, filter}
+use Rattle.sexpr_text.specs.Items.{children_of, is_headed}
 use Rattle.board_fields.proofs.Children.{Next, next_child, none_left, count_yes, count_no}
 use Rattle.board_fields.proofs.lists.count_of.Goals as goal
 use Rattle.board_fields.proofs.lists.count_of.Goals.{then-is_headed, else-is_headed}

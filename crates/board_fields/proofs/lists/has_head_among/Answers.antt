@@ -1,6 +1,6 @@
-use Rattle.std.proofs.Common.{◌≡◌, ◌∙◌, sym, ap, arith, true, false, List, ℕ, map, drop, Bor}
+use Rattle.std.proofs.Common.{◌∙◌, sym, map}
 use Rattle.std.specs.List.{list_any}
-use Rattle.sexpr_text.specs.Items.{Item, is_headed}
+use Rattle.sexpr_text.specs.Items.{is_headed}
 use Rattle.board_fields.proofs.Names.{any_here, any_next, any_none}
 use Rattle.board_fields.proofs.lists.has_head_among.Goals as goal
 

@@ -1,6 +1,6 @@
-use Rattle.std.proofs.Common.{◌≡◌, ◌∙◌, ◌+◌, ◌⊎◌, inl, inr, Bool, false, sym, ap, List, length}
+use Rattle.std.proofs.Common.{◌≡◌, ◌∙◌, ◌+◌, ◌⊎◌, inl, inr, false, sym, ap}
 use Rattle.std.specs.List.{list_any}
-use Rattle.sexpr_text.specs.Items.{Item, children_of}
+use Rattle.sexpr_text.specs.Items.{children_of}
 use Rattle.sexpr_text.specs.declared.NodeKind.{NodeKind}
 use Rattle.sexpr_text.specs.declared.NodeKind.TheVariants as kinds
 use Rattle.board_fields.specs.Lists.{is_string, is_string_kind}

@@ -1,6 +1,6 @@
-use Rattle.std.proofs.Common.{◌≡◌, ◌∙◌, ◌+◌, ◌++◌, ◌∷◌, [], ◌<◌, ℕ, List, sym, ap, subst, arith, length, get_or, slice_index, EachIndex}
-use Rattle.sexpr_text.specs.Items.{Item, children_of, is_headed}
-use Rattle.board_fields.proofs.Children.{Next, Collected, next_child, none_left, collect_yes, collect_no, collect_all, all_below}
+use Rattle.std.proofs.Common.{◌∙◌, ◌+◌, sym, ap, length, get_or}
+use Rattle.sexpr_text.specs.Items.{children_of, is_headed}
+use Rattle.board_fields.proofs.Children.{Next, next_child, none_left, collect_yes, collect_no, collect_all, all_below}
 use Rattle.board_fields.proofs.lists.headed_lists.Goals as goal
 use Rattle.board_fields.proofs.lists.headed_lists.Goals.{then-is_headed+in_ok-push, else-is_headed}
 

@@ -1,5 +1,4 @@
-use Rattle.std.proofs.Common.{◌≡◌, ◌∙◌, sym, ap, inl, inr}
-use Rattle.sexpr_text.specs.Items.{Item}
+use Rattle.std.proofs.Common.{◌∙◌, sym, ap, inl, inr}
 use Rattle.board_fields.specs.Lists.{is_list_kind}
 use Rattle.board_fields.proofs.lists.is_list.Goals as goal
 

@@ -1,4 +1,4 @@
-use Rattle.std.proofs.Common.{◌≡◌, arith}
+use Rattle.std.proofs.Common.{arith}
 use Rattle.grid_num.proofs.Capped.{capped_more}
 use Rattle.board_fields.proofs.values.capped_number.Goals as goal
 

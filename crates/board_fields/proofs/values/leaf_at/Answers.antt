@@ -1,4 +1,4 @@
-use Rattle.std.proofs.Common.{◌≡◌, ◌∙◌, ◌⊎◌, inl, inr, ℕ, get_or, length, slice_get, IfSome, Option, Some, None, sym, subst, arith}
+use Rattle.std.proofs.Common.{◌≡◌, ◌⊎◌, inl, inr, get_or, slice_get, IfSome, Option, Some, None, sym, subst}
 use Rattle.sexpr_text.specs.Items.{IsLeafKind}
 use Rattle.sexpr_text.specs.Flat.{Shown}
 use Rattle.sexpr_text.specs.declared.NodeKind.{NodeKind}

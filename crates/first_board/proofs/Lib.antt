@@ -1,0 +1,5 @@
+pub mod Sets
+pub mod Looked
+pub mod Parts
+pub mod Unique
+pub mod Roots

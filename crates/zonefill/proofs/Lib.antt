@@ -1,0 +1,5 @@
+pub mod Joined
+pub mod OneZone
+pub mod Owes
+pub mod OneDue
+pub mod EndsOf

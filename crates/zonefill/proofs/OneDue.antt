@@ -1,0 +1,98 @@
+-- At most one thing is due, and so the answer of a quiet run is to it.
+use Rattle.std.proofs.Common.{◌≡◌, ◌⊎◌, inl, inr, ℕ, ◌+◌, ◌<◌, ◌≤◌, arith, refl, sym, ◌∙◌, ap, subst, List, length}
+use Rattle.desk.specs.Seen.{Seen, content}
+use Rattle.desk.specs.declared.Counts.{Counts}
+use Rattle.sexpr_text.specs.declared.NodeKind.{NodeKind}
+use Rattle.sexpr_text.specs.declared.error.TextKind.{TextKind}
+use Rattle.sexpr_text.specs.Grammar.{Forest}
+use Rattle.sexpr_text.specs.Grammar.Forest.{Nil, Group}
+use Rattle.sexpr_text.specs.Items.{Item}
+use Rattle.sexpr_text.proofs.Whole.{one_tree}
+use Rattle.sexpr_text.proofs.FaultLaws.{same_fault, no_fault}
+use Rattle.sexpr_text.specs.Trees.{IsRoot}
+use Rattle.sexpr_text.specs.Faults.{IsFault}
+use Rattle.sexpr_text.specs.declared.error.TextFault.{TextFault}
+use Rattle.first_board.specs.Board as Board
+use Rattle.first_board.specs.Form.{IsFirstForm}
+use Rattle.first_board.proofs.Unique.{same_board}
+use Rattle.grid_num.specs.declared.Point.{Point}
+use Rattle.zone_fill.specs.Rings.{AreRings}
+use Rattle.zone_fill.proofs.OneList.{one_list}
+use Rattle.zonefill.specs.declared.ended.Ended.{Ended}
+use Rattle.zonefill.specs.declared.ended.Ended.TheVariants.{Done, Usage, TooLong, BadText, Unbuilt, Unreadable, Unwritten, Memory}
+use Rattle.zonefill.specs.Words.{Wanted, wanted}
+use Rattle.zonefill.specs.Words.Wanted.{Wrong, Fill}
+use Rattle.zonefill.specs.Output.{IsFilled, zone_of, with_rings}
+use Rattle.zonefill.specs.Due.{Due, IsDue, OwesWords, OwesFile, OwesText, OwesBoard, OneDueLaw}
+use Rattle.zonefill.specs.Due.Due.{Refuse, Write}
+use Rattle.zonefill.specs.Leaves.{Leaves, IsCaused, IsQuiet, IsAnswerTo}
+
+abbrev item : NodeKind → ℕ → ℕ → Forest → Item
+item kind from to inner = record { kind = kind; from = from; to = to; inner = inner }
+
+abbrev placed : ℕ → TextKind → TextFault
+placed at kind = record { at = at; kind = kind }
+
+same_item : (root other : Item) → root.kind ≡ other.kind → root.from ≡ other.from → root.to ≡ other.to → root.inner ≡ other.inner → root ≡ other
+same_item root other p q r t = let h : item root.kind root.from root.to root.inner ≡ item other.kind other.from other.to other.inner = cc in h
+
+same_fault_record : (fault other : TextFault) → fault.at ≡ other.at → fault.kind ≡ other.kind → fault ≡ other
+same_fault_record fault other p q = let h : placed fault.at fault.kind ≡ placed other.at other.kind = cc in h
+
+one_root : (text : List ℕ) (root other : Item) → IsRoot text root → IsRoot text other → root ≡ other
+one_root text root other r o =
+    let same = one_tree text (Group root.from root.to root.inner Nil) (Group other.from other.to other.inner Nil) r.spelt o.spelt in
+    let from : root.from ≡ other.from = cc in
+    let to : root.to ≡ other.to = cc in
+    let inner : root.inner ≡ other.inner = cc in
+    same_item root other (r.list ∙ sym o.list) from to inner
+
+one_fault : (text : List ℕ) (fault other : TextFault) → IsFault text fault.at fault.kind → IsFault text other.at other.kind → fault ≡ other
+one_fault text fault other f o =
+    let same = same_fault text fault.at other.at fault.kind other.kind f o in
+    same_fault_record fault other same.0 same.1
+
+one_filled : (text : List ℕ) (root : Item) (filled other : List ℕ) → IsFilled text root filled → IsFilled text root other → filled ≡ other
+one_filled text root filled other f o =
+    let b : f.board ≡ o.board = same_board text root f.board o.board f.is_board o.is_board in
+    let r : f.rings ≡ o.rings = one_list (zone_of o.board) f.rings o.rings (subst (λ b. AreRings (zone_of b) f.rings) b f.are_rings) o.are_rings in
+    f.written ∙ ap (λ b. with_rings text b f.rings) b ∙ ap (λ rs. with_rings text o.board rs) r ∙ sym o.written
+
+one_of_board : (text : List ℕ) (root : Item) (output : List ℕ) (due other : Due) → OwesBoard text root output due → OwesBoard text root output other → due ≡ other
+one_of_board text root output due other (inl f) (inl o) = f.2 ∙ ap (Write output) (one_filled text root f.0 o.0 f.1 o.1) ∙ sym o.2
+one_of_board text root output due other (inl f) (inr o) = absurd (o.0 f.1.board f.1.is_board)
+one_of_board text root output due other (inr f) (inl o) = absurd (f.0 o.1.board o.1.is_board)
+one_of_board text root output due other (inr f) (inr o) = f.1 ∙ sym o.1
+
+one_of_text : (text output : List ℕ) (due other : Due) → OwesText text output due → OwesText text output other → due ≡ other
+one_of_text text output due other (inl f) (inl o) = f.2 ∙ ap (λ fault. Refuse (BadText fault)) (one_fault text f.0 o.0 f.1 o.1) ∙ sym o.2
+one_of_text text output due other (inl f) (inr o) = absurd (no_fault text _ f.0.at f.0.kind o.1.spelt f.1)
+one_of_text text output due other (inr f) (inl o) = absurd (no_fault text _ o.0.at o.0.kind f.1.spelt o.1)
+one_of_text text output due other (inr f) (inr o) =
+    one_of_board text o.0 output due other (subst (λ root. OwesBoard text root output due) (one_root text f.0 o.0 f.1 o.1) f.2) o.2
+
+one_of_file : (text output : List ℕ) (due other : Due) → OwesFile text output due → OwesFile text output other → due ≡ other
+one_of_file text output due other (inl f) (inl o) = f.1 ∙ sym o.1
+one_of_file text output due other (inl f) (inr o) = absurd (omega (arith, f.0, o.0))
+one_of_file text output due other (inr f) (inl o) = absurd (omega (arith, f.0, o.0))
+one_of_file text output due other (inr f) (inr o) = one_of_text text output due other f.1 o.1
+
+one_of_words : (w : Wanted) (s : Seen) (due other : Due) → OwesWords w s due → OwesWords w s other → due ≡ other
+one_of_words (Wrong fault) s due other f o = f ∙ sym o
+one_of_words (Fill input output) s due other f o = one_of_file (content input s) output due other f o
+
+pub one_due : OneDueLaw
+unfolding IsDue
+one_due words s due other f o = one_of_words (wanted words) s due other f o
+
+-- a quiet run answers what is due
+pub answers_due : (answer : Ended) (words : List (List ℕ)) (before now : Counts) (s t : Seen) (due : Due)
+    → Leaves answer words s t → IsCaused answer before now → IsQuiet before now → IsDue words s due → IsAnswerTo answer due
+answers_due Done words before now s t due l c q d = subst (IsAnswerTo Done) (one_due words s (Write l.0 l.1) due l.2 d) tt
+answers_due (Usage fault) words before now s t due l c q d = one_due words s due (Refuse (Usage fault)) d l.0
+answers_due (TooLong role taken) words before now s t due l c q d = one_due words s due (Refuse (TooLong role taken)) d l.0
+answers_due (BadText fault) words before now s t due l c q d = one_due words s due (Refuse (BadText fault)) d l.0
+answers_due Unbuilt words before now s t due l c q d = one_due words s due (Refuse Unbuilt) d l.0
+answers_due (Unreadable role) words before now s t due l c q d = absurd (q.reading c)
+answers_due (Unwritten given) words before now s t due l c q d = absurd (q.writing c)
+answers_due Memory words before now s t due l c q d = tt

@@ -1,0 +1,12 @@
+use Rattle.std.proofs.Common.{refl, get_or, arith, ◌<◌, length, pos}
+use Rattle.std.specs.List.{flat_map}
+use Rattle.grid_num.specs.declared.Point.{Point}
+use Rattle.zonefill.specs.Output.{corner_text}
+use Rattle.zonefill.proofs.Joined.{added_item, found_item}
+use Rattle.zonefill.proofs.board_text.add_corners.Goals as goal
+
+pub corners-preserved : goal.corners-preserved
+corners-preserved c =
+    let within : c.corners.corner-index < length c.args.corners.now = omega arith in
+    added_item (flat_map corner_text) corner_text (λ x ys. refl) c.args.corners.now c.corners.corner-index _ c.corners.out.items c.add_corner.new.out.items _
+    within (found_item c.args.corners.now c.corners.corner-index _ within) c.in_ok-add_corner.ensures c.corners.invariant

@@ -1,0 +1,30 @@
+-- The refusals of a text.
+use Rattle.std.specs.Prelude.{◌≡◌, ℕ, List}
+use Rattle.sexpr_text.specs.Items.{Item}
+use Rattle.sexpr_text.specs.Trees.{IsRoot}
+use Rattle.sexpr_text.specs.Faults.{IsFault}
+use Rattle.sexpr_text.specs.declared.error.TextError.{TextError}
+use Rattle.sexpr_text.specs.declared.error.TextError.TheVariants as text_error
+use Rattle.first_board.specs.Board as Board
+use Rattle.first_board.specs.Form.{IsFirstForm}
+use Rattle.zone_fill.specs.declared.Rect.{Rect}
+use Rattle.zonefill.specs.declared.filled.Refusal.{Refusal}
+use Rattle.zonefill.specs.declared.filled.Refusal.TheVariants.{Memory, BadText, Unbuilt}
+
+-- the refusal that a text's error makes
+abbrev pub IsOf : TextError → Refusal → Type 0
+IsOf text_error.Memory refusal = refusal ≡ Memory
+IsOf (text_error.Bad fault) refusal = refusal ≡ BadText fault
+
+-- a text is refused by its fault, or where its tree is no board that is filled yet; want of memory aside
+abbrev pub IsOwed : List ℕ → Refusal → Type 0
+IsOwed text Memory = Unit {0}
+IsOwed text (BadText fault) = IsFault text fault.at fault.kind
+IsOwed text Unbuilt = (root : Item) × IsRoot text root × ((board : Board.Shown) → IsFirstForm text root board → ⊥)
+
+-- the rectangle has the sides of the board's zone
+pub record IsOutlineOf (board : Board.Shown) (outline : Rect) : Type 0 where
+  pub left : outline.left ≡ board.left
+  pub right : outline.right ≡ board.right
+  pub top : outline.top ≡ board.top
+  pub bottom : outline.bottom ≡ board.bottom

@@ -1,0 +1,270 @@
+// What no clause says: that runs answer Done with ample memory, and the bytes of whole boards.
+ghost use Rattle.std.specs.List.Sorted.{IsStrictlyIncreasing};
+
+use super::*;
+use crate::ended::{Role, UsageFault};
+use desk::MemoryDesk;
+use sexpr_text::{TextFault, TextKind};
+use std::alloc::AllocError;
+use std::test::Fail;
+
+/// A board with one zone on F.Cu, of this least thickness and outline, up to the end of the outline's line.
+fn board(alloc: Global, thickness: &str, outline: &str) -> Result<String, AllocError> {
+    format!(in alloc;
+        "(kicad_pcb (version 20221018) (generator pcbnew)
+  (layers (0 \"F.Cu\" signal) (31 \"B.Cu\" signal))
+  (net 0 \"\")
+  (net 1 \"GND\")
+  (net 2 \"SIG\")
+  (net 3 \"CLK\")
+  (zone (net 1) (net_name \"GND\") (layer \"F.Cu\") (tstamp z1) (hatch edge 0.5)
+    (connect_pads (clearance 0.2))
+    (min_thickness {thickness})
+    (fill yes (thermal_gap 0.5) (thermal_bridge_width 0.5) (island_removal_mode 1))
+    (polygon (pts {outline}))"
+    )
+}
+
+/// The lines behind the outline's line.
+const END: &str = "\n  )\n)\n";
+
+const SQUARE: &str = "(xy 0 0) (xy 10 0) (xy 10 10) (xy 0 10)";
+
+/// The text of a ring of these corners.
+fn ring(alloc: Global, corners: &[&str]) -> Result<String, AllocError> {
+    let mut text = String::from_str(alloc, "")?;
+    if corners.is_empty() {
+        return Ok(text);
+    }
+    text.push_str("\n    (filled_polygon\n      (layer \"F.Cu\")\n      (pts")?;
+    for corner in corners {
+        text.push_str("\n        (xy ")?;
+        text.push_str(corner)?;
+        text.push_str(")")?;
+    }
+    text.push_str("\n      )\n    )")?;
+    Ok(text)
+}
+
+fn words_of(alloc: Global, words: &[&str]) -> Result<Vec<String>, AllocError> {
+    let mut all = Vec::new(alloc);
+    for word in words {
+        all.push(String::from_str(alloc, word)?)?;
+    }
+    Ok(all)
+}
+
+/// Runs with these words over a desk in memory.
+fn run_words(alloc: Global, desk: &mut MemoryDesk, words: &[&str]) -> Result<Ended, AllocError> {
+    let words = words_of(alloc, words)?;
+    Ok(run_counted::<MemoryDesk, Brand>(alloc, &words, desk, Blank::new(1)))
+}
+
+/// A desk with a file `a`.
+fn desk_with(alloc: Global, failing: &[u64], text: &[u8]) -> Result<MemoryDesk, Fail>
+    requires { IsStrictlyIncreasing failing.now }
+{
+    let mut desk = MemoryDesk::new(alloc, 100, failing)?;
+    desk.put("a", text)?;
+    Ok(desk)
+}
+
+// thickness, outline, corners of the one ring
+const FILLS: [(&str, &str, &[&str]); 4] = [
+    (
+        "0.25",
+        SQUARE,
+        &[
+            "0.073222 0",
+            "9.926778 0",
+            "10 0.073222",
+            "10 9.926778",
+            "9.926778 10",
+            "0.073222 10",
+            "0 9.926778",
+            "0 0.073222",
+        ],
+    ),
+    // narrower than the brush: no copper
+    ("0.25", "(xy 0 0) (xy 0.2 0) (xy 0.2 0.2) (xy 0 0.2)", &[]),
+    // as wide as the brush: one column of centres
+    (
+        "0.25",
+        "(xy 0 0) (xy 0.25 0) (xy 0.25 10) (xy 0 10)",
+        &[
+            "0.073222 0",
+            "0.176778 0",
+            "0.25 0.073222",
+            "0.25 9.926778",
+            "0.176778 10",
+            "0.073222 10",
+            "0 9.926778",
+            "0 0.073222",
+        ],
+    ),
+    // the finest brush
+    (
+        "0.001",
+        SQUARE,
+        &[
+            "0.000292 0",
+            "9.999708 0",
+            "10 0.000292",
+            "10 9.999708",
+            "9.999708 10",
+            "0.000292 10",
+            "0 9.999708",
+            "0 0.000292",
+        ],
+    ),
+];
+
+#[test]
+fn fills_rectangles(rt: HostRuntime) -> Result<(), Fail> {
+    let alloc = rt.alloc();
+    for (thickness, outline, corners) in FILLS {
+        let front = board(alloc, thickness, outline)?;
+        let text = format!(in alloc; "{front}{END}")?;
+        let mut desk = desk_with(alloc, &[], text.as_bytes())?;
+        assert!(rt;
+            run_words(alloc, &mut desk, &["fill", "a", "b"])? == Ended::Done,
+            "{outline}"
+        );
+        let ring = ring(alloc, corners)?;
+        let filled = format!(in alloc; "{front}{ring}{END}")?;
+        assert!(rt; desk.contents("b") == Some(filled.as_bytes()), "{outline}");
+        assert!(rt; desk.contents("a") == Some(text.as_bytes()));
+        assert!(rt; desk.complained().is_empty() && desk.said().is_empty() && desk.starved() == 0);
+    }
+    Ok(())
+}
+
+// a text, its answer and its complaint
+const REFUSED: [(&[u8], Ended, &[u8]); 5] = [
+    (
+        b"",
+        Ended::BadText(TextFault {
+            at: 0,
+            kind: TextKind::Empty,
+        }),
+        b"zonefill: byte 0: Empty\n",
+    ),
+    (
+        b"(a (b)",
+        Ended::BadText(TextFault {
+            at: 6,
+            kind: TextKind::Unclosed,
+        }),
+        b"zonefill: byte 6: Unclosed\n",
+    ),
+    (
+        b"(\xff",
+        Ended::BadText(TextFault {
+            at: 1,
+            kind: TextKind::BadUtf8,
+        }),
+        b"zonefill: byte 1: BadUtf8\n",
+    ),
+    (b"(a)", Ended::Unbuilt, b"zonefill: not built yet\n"),
+    (
+        b"(kicad_pcb (version 20221018) (layers))",
+        Ended::Unbuilt,
+        b"zonefill: not built yet\n",
+    ),
+];
+
+#[test]
+fn refuses_texts(rt: HostRuntime) -> Result<(), Fail> {
+    for (text, ended, complaint) in REFUSED {
+        let mut desk = desk_with(rt.alloc(), &[], text)?;
+        assert!(rt; run_words(rt.alloc(), &mut desk, &["fill", "a", "b"])? == ended);
+        assert!(rt; desk.complained() == complaint);
+        assert!(rt; desk.contents("b").is_none());
+    }
+    Ok(())
+}
+
+const USAGE: &[u8] =
+    b"zonefill: usage: fill IN OUT, refill IN EDITS OUT, report IN, generate SEED SIZE OUT\n";
+
+#[test]
+fn reads_words(rt: HostRuntime) -> Result<(), Fail> {
+    let refused: [(&[&str], UsageFault); 7] = [
+        (&[], UsageFault::Words),
+        (&["fill", "a"], UsageFault::Words),
+        (&["fill", "a", "b", "c"], UsageFault::Words),
+        (&["file", "a", "b"], UsageFault::Words),
+        (&["fill", "a", "--help"], UsageFault::Words),
+        (&["fill", "-a", "-a"], UsageFault::Words),
+        (&["fill", "a", "a"], UsageFault::SameName),
+    ];
+    for (words, fault) in refused {
+        let mut desk = desk_with(rt.alloc(), &[], b"(a)")?;
+        let ended = run_words(rt.alloc(), &mut desk, words)?;
+        assert!(rt; ended == Ended::Usage(fault));
+        assert!(rt; status(&ended) == 2);
+        assert!(rt; desk.complained() == USAGE);
+    }
+    // `-` alone is a name
+    let mut desk = desk_with(rt.alloc(), &[], b"(a)")?;
+    let ended = run_words(rt.alloc(), &mut desk, &["fill", "-", "b"])?;
+    assert!(rt; ended == Ended::Unreadable { role: Role::In });
+    assert!(rt; desk.complained() == b"zonefill: IN can't be read\n".as_slice());
+    Ok(())
+}
+
+/// Whether one text begins another.
+fn begins(front: &[u8], whole: &[u8]) -> bool {
+    whole.starts_with(front)
+}
+
+#[test]
+fn meets_a_fault_at_each_call(rt: HostRuntime) -> Result<(), Fail> {
+    let alloc = rt.alloc();
+    let front = board(alloc, "0.25", SQUARE)?;
+    let text = format!(in alloc; "{front}{END}")?;
+    let (_, _, corners) = FILLS[0];
+    let ring = ring(alloc, corners)?;
+    let filled = format!(in alloc; "{front}{ring}{END}")?;
+    for n in 1..=40u64 {
+        let mut desk = desk_with(alloc, &[n], text.as_bytes())?;
+        let ended = run_words(alloc, &mut desk, &["fill", "a", "b"])?;
+        match ended {
+            Ended::Unreadable { .. } => assert!(rt; desk.contents("b").is_none(), "{n}"),
+            Ended::Unwritten { given } => {
+                let left = desk.contents("b").unwrap_or(b"");
+                assert!(rt;
+                    left.len() as u64 == given && begins(left, filled.as_bytes()),
+                    "{n}"
+                );
+            }
+            Ended::Done => assert!(rt;
+                desk.calls() < n && desk.contents("b") == Some(filled.as_bytes()),
+                "{n}"
+            ),
+            _ => assert!(rt; false, "{n}"),
+        }
+        assert!(rt; desk.starved() == 0);
+        // the next run on the same desk meets no fault
+        let again = run_words(alloc, &mut desk, &["fill", "a", "b"])?;
+        assert!(rt;
+            again == Ended::Done || desk.calls() >= n && ended == Ended::Done,
+            "{n}"
+        );
+    }
+    Ok(())
+}
+
+#[test]
+fn cuts_the_output(rt: HostRuntime) -> Result<(), Fail> {
+    let alloc = rt.alloc();
+    let text = format!(in alloc; "{}{END}", board(alloc, "0.25", SQUARE)?)?;
+    let reads = (text.len() as u64).div_ceil(100) + 1;
+    // the reads, one create, and the third append fails
+    let mut desk = desk_with(alloc, &[reads.saturating_add(4)], text.as_bytes())?;
+    let ended = run_words(alloc, &mut desk, &["fill", "a", "b"])?;
+    assert!(rt; ended == Ended::Unwritten { given: 200 });
+    assert!(rt; status(&ended) == 3);
+    assert!(rt; desk.complained() == b"zonefill: OUT was cut after 200 bytes\n".as_slice());
+    Ok(())
+}
