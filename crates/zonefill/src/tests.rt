@@ -268,3 +268,38 @@ fn cuts_the_output(rt: HostRuntime) -> Result<(), Fail> {
     assert!(rt; desk.complained() == b"zonefill: OUT was cut after 200 bytes\n".as_slice());
     Ok(())
 }
+
+/// A board of one zone, with spaces behind it up to this length.
+fn padded(alloc: Global, length: usize) -> Result<Vec<u8>, AllocError> {
+    let front = board(alloc, "0.25", SQUARE)?;
+    let mut text = front.as_bytes().to_vec(alloc)?;
+    text.extend_from_slice(END.as_bytes())?;
+    text.resize(length, b' ')?;
+    Ok(text)
+}
+
+#[test]
+fn takes_64_mib_and_no_more(rt: HostRuntime) -> Result<(), Fail> {
+    let alloc = rt.alloc();
+    for (length, ended) in [
+        (67_108_864, Ended::Done),
+        (
+            67_108_865,
+            Ended::TooLong {
+                role: Role::In,
+                taken: 67_108_865,
+            },
+        ),
+    ] {
+        let mut desk = MemoryDesk::new(alloc, 1 << 20, &[])?;
+        desk.put("a", &padded(alloc, length)?)?;
+        assert!(rt;
+            run_words(alloc, &mut desk, &["fill", "a", "b"])? == ended,
+            "{length}"
+        );
+        let whole = ended == Ended::Done;
+        assert!(rt; desk.contents("b").is_some() == whole, "{length}");
+        assert!(rt; desk.complained().is_empty() == whole, "{length}");
+    }
+    Ok(())
+}
