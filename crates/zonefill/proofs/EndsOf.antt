@@ -1,5 +1,5 @@
 -- How a run ends, from its work and its complaint.
-use Rattle.std.proofs.Common.{◌≡◌, ◌∙◌, ℕ, sym, subst, List, length, Option, Some}
+use Rattle.std.proofs.Common.{◌≡◌, ℕ, sym, subst, List, Option, Some}
 use Rattle.desk.specs.Seen.{Seen, with_complained}
 use Rattle.desk.specs.declared.Counts.{Counts}
 use Rattle.desk.specs.Faults.{Rose, OnlyComplaining}

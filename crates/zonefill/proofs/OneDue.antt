@@ -1,5 +1,5 @@
 -- At most one thing is due, and so the answer of a quiet run is to it.
-use Rattle.std.proofs.Common.{◌≡◌, ◌⊎◌, inl, inr, ℕ, ◌+◌, ◌<◌, ◌≤◌, arith, refl, sym, ◌∙◌, ap, subst, List, length}
+use Rattle.std.proofs.Common.{◌≡◌, inl, inr, ℕ, arith, sym, ◌∙◌, ap, subst, List}
 use Rattle.desk.specs.Seen.{Seen, content}
 use Rattle.desk.specs.declared.Counts.{Counts}
 use Rattle.sexpr_text.specs.declared.NodeKind.{NodeKind}
@@ -12,10 +12,7 @@ use Rattle.sexpr_text.proofs.FaultLaws.{same_fault, no_fault}
 use Rattle.sexpr_text.specs.Trees.{IsRoot}
 use Rattle.sexpr_text.specs.Faults.{IsFault}
 use Rattle.sexpr_text.specs.declared.error.TextFault.{TextFault}
-use Rattle.first_board.specs.Board as Board
-use Rattle.first_board.specs.Form.{IsFirstForm}
 use Rattle.first_board.proofs.Unique.{same_board}
-use Rattle.grid_num.specs.declared.Point.{Point}
 use Rattle.zone_fill.specs.Rings.{AreRings}
 use Rattle.zone_fill.proofs.OneList.{one_list}
 use Rattle.zonefill.specs.declared.ended.Ended.{Ended}

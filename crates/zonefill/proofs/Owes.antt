@@ -1,5 +1,5 @@
 -- What the parts of a run find is what is due.
-use Rattle.std.proofs.Common.{◌≡◌, ◌⊎◌, inl, inr, ℕ, ◌+◌, ◌<◌, ◌≤◌, arith, refl, sym, ◌∙◌, ap, subst, List, ◌++◌, length, take, drop, length-take, length-drop, length-append, Option, None, Some}
+use Rattle.std.proofs.Common.{◌≡◌, inl, inr, ℕ, ◌+◌, ◌<◌, ◌≤◌, arith, refl, sym, ◌∙◌, ap, subst, List, ◌++◌, length, take, drop, length-take, length-drop, length-append, Option, None, Some}
 use Rattle.std.specs.Option.{IsSome}
 use Rattle.std.specs.List.{flat_map}
 use Rattle.desk.specs.Seen.{Seen, content, with_file}
@@ -7,15 +7,14 @@ use Rattle.desk.specs.Room.{cost_of, HasRoom}
 use Rattle.desk.proofs.Rooms.{cost_within}
 use Rattle.sexpr_text.specs.Items.{Item}
 use Rattle.sexpr_text.specs.Trees.{IsRoot}
-use Rattle.zonefill.specs.declared.ended.Ended.{Ended}
-use Rattle.zonefill.specs.declared.ended.Ended.TheVariants.{Usage, TooLong, BadText, Unbuilt, Unreadable, Memory}
+use Rattle.zonefill.specs.declared.ended.Ended.TheVariants.{Usage, TooLong, BadText, Unbuilt}
 use Rattle.zonefill.specs.declared.ended.Role.TheVariants.{In}
 use Rattle.zonefill.specs.declared.ended.UsageFault.{UsageFault}
 use Rattle.zonefill.specs.declared.filled.Refusal.{Refusal}
 use Rattle.zonefill.specs.declared.filled.Refusal.TheVariants as refusal
 use Rattle.whole_files.specs.declared.ReadStop.{ReadStop}
 use Rattle.whole_files.specs.declared.ReadStop.TheVariants as stop
-use Rattle.zonefill.specs.Words.{Wanted, wanted}
+use Rattle.zonefill.specs.Words.{wanted}
 use Rattle.zonefill.specs.Words.Wanted.{Wrong, Fill}
 use Rattle.whole_files.specs.Files.{IsCut}
 use Rattle.zonefill.specs.Output.{IsFilled, ring_text}
@@ -23,7 +22,7 @@ use Rattle.zonefill.specs.Filled.{IsOwed}
 use Rattle.zonefill.specs.Answers.{answer_of, answer_of_stop}
 use Rattle.zonefill.specs.Due.{Due, IsDue, OwesWords, OwesFile, OwesText}
 use Rattle.zonefill.specs.Due.Due.{Refuse, Write}
-use Rattle.zonefill.specs.Leaves.{Leaves, NeedsRoom, HasRoomFor, IsCutShort}
+use Rattle.zonefill.specs.Leaves.{Leaves, HasRoomFor, IsCutShort}
 
 -- the words' fault
 pub owes_usage : (words : List (List ℕ)) (s : Seen) (fault : UsageFault) → wanted words ≡ Wrong fault → IsDue words s (Refuse (Usage fault))

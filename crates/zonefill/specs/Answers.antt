@@ -1,5 +1,4 @@
 -- The answers that the parts of a run make.
-use Rattle.std.specs.Prelude.{◌≡◌}
 use Rattle.whole_files.specs.declared.ReadStop.{ReadStop}
 use Rattle.whole_files.specs.declared.ReadStop.TheVariants as stop
 use Rattle.zonefill.specs.declared.ended.Ended.{Ended}

@@ -4,7 +4,7 @@ use Rattle.desk.specs.declared.Counts.{Counts}
 use Rattle.desk.specs.Seen.{Seen, with_file, with_complained}
 use Rattle.desk.specs.Faults.{Rose}
 use Rattle.zonefill.specs.declared.ended.Ended.{Ended}
-use Rattle.zonefill.specs.declared.ended.Ended.TheVariants.{Done, Usage, TooLong, BadText, Unbuilt, Unreadable, Unwritten, Memory}
+use Rattle.zonefill.specs.declared.ended.Ended.TheVariants.{Done, Unreadable, Unwritten, Memory}
 use Rattle.zonefill.specs.Words.{wanted}
 use Rattle.zonefill.specs.Words.Wanted.{Fill}
 use Rattle.zonefill.specs.Due.{Due, IsDue}

@@ -1,6 +1,5 @@
-use Rattle.std.proofs.Common.{refl, get_or, arith, ◌<◌, length, pos}
+use Rattle.std.proofs.Common.{refl, arith, ◌<◌, length}
 use Rattle.std.specs.List.{flat_map}
-use Rattle.grid_num.specs.declared.Point.{Point}
 use Rattle.zonefill.specs.Output.{corner_text}
 use Rattle.zonefill.proofs.Joined.{added_item, found_item}
 use Rattle.zonefill.proofs.board_text.add_corners.Goals as goal

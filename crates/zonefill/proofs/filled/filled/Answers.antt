@@ -1,11 +1,7 @@
-use Rattle.std.proofs.Common.{◌≡◌, ◌∙◌, ap, subst, arith, map, Some}
-use Rattle.std.specs.Option.{MatchOption}
-use Rattle.sexpr_text.specs.Items.{Item}
-use Rattle.zone_fill.specs.Rules.{Zone}
+use Rattle.std.proofs.Common.{◌∙◌, ap, subst, arith, map}
 use Rattle.zone_fill.specs.Rings.{AreRings}
 use Rattle.zone_fill.specs.Rectangle.{corners_shown}
 use Rattle.zone_fill.proofs.Cover.{cover_law}
-use Rattle.first_board.specs.declared.FirstBoard.{FirstBoard}
 use Rattle.first_board.specs.Board as Board
 use Rattle.first_board.specs.Board.{shown}
 use Rattle.first_board.specs.Form.{IsFirstForm}

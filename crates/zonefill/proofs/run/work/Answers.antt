@@ -1,14 +1,8 @@
 use Rattle.std.proofs.Common.{◌≡◌, ◌∙◌, ◌+◌, ◌<◌, ◌≤◌, ℕ, arith, inl, inr, map, ap, refl, sym, subst, take, length, List, Some}
-use Rattle.std.specs.Option.{IsSome}
 use Rattle.std.specs.String.{string_bytes}
-use Rattle.desk.specs.Seen.{Seen, content, with_file}
-use Rattle.desk.specs.Room.{cost_of, HasRoom, Spends}
+use Rattle.desk.specs.Seen.{content, with_file}
 use Rattle.desk.proofs.Rooms.{has_less, room_left}
-use Rattle.whole_files.specs.declared.ReadStop.TheVariants as stop
-use Rattle.zonefill.specs.declared.ended.Ended.{Ended}
-use Rattle.zonefill.specs.Leaves.{Leaves, HasRoomFor}
-use Rattle.zonefill.specs.Due.{IsDue}
-use Rattle.zonefill.specs.Due.Due.{Write}
+use Rattle.zonefill.specs.Leaves.{Leaves}
 use Rattle.zonefill.proofs.Owes.{owes_usage, leaves_unread, leaves_refused, due_bytes, room_after, some_bytes, cut_short}
 use Rattle.zonefill.proofs.run.work.Goals as goal
 
