@@ -160,5 +160,4 @@ pub fn one_value()
     ensures text { (bytes : List ℕ) (item : Item) (place : ℕ) (text other : List ℕ) → HasText bytes item place text → HasText bytes item place other → text ≡ other }
     ensures whole { (bytes : List ℕ) (item : Item) (place n other : ℕ) → HasWhole bytes item place n → HasWhole bytes item place other → n ≡ other }
     ensures length { (bytes : List ℕ) (item : Item) (place : ℕ) (nm other : ℤ) → HasLength bytes item place nm → HasLength bytes item place other → nm ≡ other }
-{
-}
+{}
