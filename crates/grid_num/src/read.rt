@@ -73,7 +73,8 @@ fn are_digits(text: &[u8]) -> bool
 fn is_spelt(whole: &[u8], fraction: &[u8]) -> bool
     ensures yes { IsTrue result → All IsAsciiDigit fraction.now }
     ensures some { IsTrue result → 0 < length whole.now + length fraction.now }
-    ensures no { result ≡ false → All IsAsciiDigit fraction.now → 0 < length whole.now + length fraction.now → ⊥ }
+    ensures no { result ≡ false → All IsAsciiDigit fraction.now
+        → 0 < length whole.now + length fraction.now → ⊥ }
 {
     are_digits(fraction) && !(whole.is_empty() && fraction.is_empty())
 }
@@ -194,6 +195,8 @@ pub fn one_length()
 
 /// A text has one fault at most, and it spells no length where it has one.
 pub fn one_fault()
-    ensures one { (text : List ℕ) (fault other : NumFault) → HasFault text fault → HasFault text other → fault ≡ other }
-    ensures no_length { (text : List ℕ) (fault : NumFault) (nm : ℤ) → HasFault text fault → IsLength text nm → ⊥ }
+    ensures one { (text : List ℕ) (fault other : NumFault) → HasFault text fault
+        → HasFault text other → fault ≡ other }
+    ensures no_length { (text : List ℕ) (fault : NumFault) (nm : ℤ) → HasFault text fault
+        → IsLength text nm → ⊥ }
 {}
