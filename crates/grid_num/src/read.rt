@@ -188,6 +188,13 @@ pub fn read_mm(text: &[u8]) -> Result<Nm, NumFault>
     Ok(signed(parts.negative, magnitude))
 }
 
+/// A text spells one number at most, by one sign, whole digits and fraction.
+pub fn one_spelling()
+    ensures { (text : List ℕ) (negative other : Bool) (whole others fraction rest : List ℕ)
+        → IsSpelling text negative whole fraction → IsSpelling text other others rest
+        → (negative ≡ other) × (whole ≡ others) × (fraction ≡ rest) }
+{}
+
 /// A text spells one length at most.
 pub fn one_length()
     ensures { (text : List ℕ) (nm other : ℤ) → IsLength text nm → IsLength text other → nm ≡ other }
