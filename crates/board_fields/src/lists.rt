@@ -36,7 +36,8 @@ pub fn is_list(tree: &Tree, id: NodeId) -> bool
 /// Whether a string stands among the children of a node.
 pub fn has_string(tree: &Tree, id: NodeId) -> bool
     requires { id < length tree.now }
-    ensures { (item : Item) → IsNode tree.now id item → result ≡ list_any is_string (children_of item) }
+    ensures { (item : Item) → IsNode tree.now id item
+        → result ≡ list_any is_string (children_of item) }
 {
     let children = tree.children(id);
     'each: for child in children {
@@ -52,7 +53,8 @@ pub fn has_string(tree: &Tree, id: NodeId) -> bool
 pub fn count_of(tree: &Tree, bytes: &[u8], id: NodeId, name: &[u8]) -> usize
     requires below { id < length tree.now }
     requires same { IsTreeOf bytes.now tree.now }
-    ensures { (item : Item) → IsNode tree.now id item → result ≡ length (headed bytes.now name.now item) }
+    ensures { (item : Item) → IsNode tree.now id item
+        → result ≡ length (headed bytes.now name.now item) }
 {
     let mut count = 0;
     let children = tree.children(id);
@@ -68,7 +70,10 @@ pub fn count_of(tree: &Tree, bytes: &[u8], id: NodeId, name: &[u8]) -> usize
 pub fn only_list(tree: &Tree, bytes: &[u8], id: NodeId, name: &[u8]) -> Option<NodeId>
     requires below { id < length tree.now }
     requires same { IsTreeOf bytes.now tree.now }
-    ensures one { MatchOption result ((item : Item) → IsNode tree.now id item → HasOne bytes.now name.now item → ⊥) (λ list. (item : Item) → IsNode tree.now id item → HasOne bytes.now name.now item × IsNode tree.now list (the_list bytes.now name.now item)) }
+    ensures one { MatchOption result
+        ((item : Item) → IsNode tree.now id item → HasOne bytes.now name.now item → ⊥)
+        (λ list. (item : Item) → IsNode tree.now id item → HasOne bytes.now name.now item
+        × IsNode tree.now list (the_list bytes.now name.now item)) }
     ensures below { IfSome result (λ list. list < length tree.now) }
 {
     if count_of(tree, bytes, id, name) == 1 {
@@ -88,8 +93,10 @@ pub fn headed_lists(
 ) -> Result<Vec<NodeId>, Memory>
     requires below { id < length tree.now }
     requires same { IsTreeOf bytes.now tree.now }
-    ensures lists { IfOk result (λ lists. (item : Item) → IsNode tree.now id item → AreNodes tree.now lists.items (headed bytes.now name.now item)) }
-    ensures below { IfOk result (λ lists. EachIndex lists.items (λ k. slice_index lists.items k < length tree.now)) }
+    ensures lists { IfOk result (λ lists. (item : Item) → IsNode tree.now id item
+        → AreNodes tree.now lists.items (headed bytes.now name.now item)) }
+    ensures below { IfOk result (λ lists. EachIndex lists.items
+        (λ k. slice_index lists.items k < length tree.now)) }
 {
     let mut lists = Vec::new(alloc);
     let children = tree.children(id);
@@ -104,8 +111,10 @@ pub fn headed_lists(
 /// All child lists, in order.
 pub fn all_lists(alloc: Global, tree: &Tree, id: NodeId) -> Result<Vec<NodeId>, Memory>
     requires { id < length tree.now }
-    ensures lists { IfOk result (λ lists. (item : Item) → IsNode tree.now id item → AreNodes tree.now lists.items (lists_of item)) }
-    ensures below { IfOk result (λ lists. EachIndex lists.items (λ k. slice_index lists.items k < length tree.now)) }
+    ensures lists { IfOk result (λ lists. (item : Item) → IsNode tree.now id item
+        → AreNodes tree.now lists.items (lists_of item)) }
+    ensures below { IfOk result (λ lists. EachIndex lists.items
+        (λ k. slice_index lists.items k < length tree.now)) }
 {
     let mut lists = Vec::new(alloc);
     let children = tree.children(id);
@@ -120,7 +129,8 @@ pub fn all_lists(alloc: Global, tree: &Tree, id: NodeId) -> Result<Vec<NodeId>, 
 fn has_head_among(tree: &Tree, bytes: &[u8], id: NodeId, names: &[&[u8]]) -> bool
     requires below { id < length tree.now }
     requires same { IsTreeOf bytes.now tree.now }
-    ensures { (item : Item) → IsNode tree.now id item → result ≡ list_any (λ name. is_headed bytes.now name item) (map (λ name. name.now) names.now) }
+    ensures { (item : Item) → IsNode tree.now id item → result ≡ list_any
+        (λ name. is_headed bytes.now name item) (map (λ name. name.now) names.now) }
 {
     'each: for name in names {
         if is_headed(tree, bytes, id, *name) {
@@ -134,7 +144,8 @@ fn has_head_among(tree: &Tree, bytes: &[u8], id: NodeId, names: &[&[u8]]) -> boo
 fn is_allowed(tree: &Tree, bytes: &[u8], id: NodeId, names: &[&[u8]]) -> bool
     requires below { id < length tree.now }
     requires same { IsTreeOf bytes.now tree.now }
-    ensures { (item : Item) → IsNode tree.now id item → result ≡ (not (is_list item) || list_any (λ name. is_headed bytes.now name item) (map (λ name. name.now) names.now)) }
+    ensures { (item : Item) → IsNode tree.now id item → result ≡ (not (is_list item) || list_any
+        (λ name. is_headed bytes.now name item) (map (λ name. name.now) names.now)) }
 {
     !is_list(tree, id) || has_head_among(tree, bytes, id, names)
 }
@@ -143,7 +154,8 @@ fn is_allowed(tree: &Tree, bytes: &[u8], id: NodeId, names: &[&[u8]]) -> bool
 pub fn are_all_headed(tree: &Tree, bytes: &[u8], id: NodeId, names: &[&[u8]]) -> bool
     requires below { id < length tree.now }
     requires same { IsTreeOf bytes.now tree.now }
-    ensures { (item : Item) → IsNode tree.now id item → IsTrue result ↔ HasOnly bytes.now (map (λ name. name.now) names.now) item }
+    ensures { (item : Item) → IsNode tree.now id item → IsTrue result ↔ HasOnly bytes.now (map
+        (λ name. name.now) names.now) item }
 {
     let children = tree.children(id);
     'each: for child in children {

@@ -16,7 +16,8 @@ use std::alloc::Global;
 /// The nodes of the items behind the head.
 fn behind_head(tree: &Tree, id: NodeId) -> &[NodeId]
     requires { id < length tree.now }
-    ensures nodes { (item : Item) → IsNode tree.now id item → AreNodes tree.now result.now (behind_head item) }
+    ensures nodes { (item : Item) → IsNode tree.now id item
+        → AreNodes tree.now result.now (behind_head item) }
     ensures below { EachIndex result.now (λ k. slice_index result.now k < length tree.now) }
 {
     let children = tree.children(id);
@@ -34,8 +35,11 @@ pub fn count_behind_head(tree: &Tree, id: NodeId) -> usize
 /// The node of the leaf at a place behind the head.
 fn leaf_at(tree: &Tree, id: NodeId, place: usize) -> Option<NodeId>
     requires { id < length tree.now }
-    ensures leaf { MatchOption result ((item : Item) → IsNode tree.now id item → HasNoLeaf item place) (λ leaf. (item : Item) → IsNode tree.now id item → IsLeafAt tree.now item place leaf) }
-    ensures kind { IfSome result (λ leaf. IfSome (slice_get tree.now leaf) (λ n. IsLeafKind n.kind)) }
+    ensures leaf { MatchOption result
+        ((item : Item) → IsNode tree.now id item → HasNoLeaf item place)
+        (λ leaf. (item : Item) → IsNode tree.now id item → IsLeafAt tree.now item place leaf) }
+    ensures kind { IfSome result (λ leaf. IfSome (slice_get tree.now leaf)
+        (λ n. IsLeafKind n.kind)) }
     ensures below { IfSome result (λ leaf. leaf < length tree.now) }
 {
     let behind = behind_head(tree, id);
@@ -62,7 +66,11 @@ pub fn content_at(
 ) -> Result<Option<Vec<u8>>, Memory>
     requires below { id < length tree.now }
     requires same { IsTreeOf bytes.now tree.now }
-    ensures { IfOk result (λ found. MatchOption found ((item : Item) (text : List ℕ) → IsNode tree.now id item → HasText bytes.now item place text → ⊥) (λ text. (item : Item) → IsNode tree.now id item → HasText bytes.now item place text.items)) }
+    ensures { IfOk result (λ found. MatchOption found
+        ((item : Item) (text : List ℕ) → IsNode tree.now id item
+        → HasText bytes.now item place text → ⊥)
+        (λ text. (item : Item) → IsNode tree.now id item
+        → HasText bytes.now item place text.items)) }
 {
     let Some(leaf) = leaf_at(tree, id, place) else {
         return Ok(None);
@@ -116,7 +124,9 @@ pub fn whole_at(
 ) -> Result<Option<u32>, Memory>
     requires below { id < length tree.now }
     requires same { IsTreeOf bytes.now tree.now }
-    ensures { IfOk result (λ found. MatchOption found ((item : Item) (n : ℕ) → IsNode tree.now id item → HasWhole bytes.now item place n → ⊥) (λ n. (item : Item) → IsNode tree.now id item → HasWhole bytes.now item place n)) }
+    ensures { IfOk result (λ found. MatchOption found
+        ((item : Item) (n : ℕ) → IsNode tree.now id item → HasWhole bytes.now item place n → ⊥)
+        (λ n. (item : Item) → IsNode tree.now id item → HasWhole bytes.now item place n)) }
 {
     let Some(text) = content_at(alloc, tree, bytes, id, place)? else {
         return Ok(None);
@@ -147,7 +157,9 @@ pub fn length_at(
 ) -> Result<Option<Nm>, Memory>
     requires below { id < length tree.now }
     requires same { IsTreeOf bytes.now tree.now }
-    ensures { IfOk result (λ found. MatchOption found ((item : Item) (nm : ℤ) → IsNode tree.now id item → HasLength bytes.now item place nm → ⊥) (λ nm. (item : Item) → IsNode tree.now id item → HasLength bytes.now item place nm)) }
+    ensures { IfOk result (λ found. MatchOption found
+        ((item : Item) (nm : ℤ) → IsNode tree.now id item → HasLength bytes.now item place nm → ⊥)
+        (λ nm. (item : Item) → IsNode tree.now id item → HasLength bytes.now item place nm)) }
 {
     let Some(text) = content_at(alloc, tree, bytes, id, place)? else {
         return Ok(None);
@@ -157,8 +169,10 @@ pub fn length_at(
 
 /// One text, one whole number and one length at most stand at a place.
 pub fn one_value()
-    ensures text { (bytes : List ℕ) (item : Item) (place : ℕ) (text other : List ℕ) → HasText bytes item place text → HasText bytes item place other → text ≡ other }
-    ensures whole { (bytes : List ℕ) (item : Item) (place n other : ℕ) → HasWhole bytes item place n → HasWhole bytes item place other → n ≡ other }
-    ensures length { (bytes : List ℕ) (item : Item) (place : ℕ) (nm other : ℤ) → HasLength bytes item place nm → HasLength bytes item place other → nm ≡ other }
-{
-}
+    ensures text { (bytes : List ℕ) (item : Item) (place : ℕ) (text other : List ℕ)
+        → HasText bytes item place text → HasText bytes item place other → text ≡ other }
+    ensures whole { (bytes : List ℕ) (item : Item) (place n other : ℕ)
+        → HasWhole bytes item place n → HasWhole bytes item place other → n ≡ other }
+    ensures length { (bytes : List ℕ) (item : Item) (place : ℕ) (nm other : ℤ)
+        → HasLength bytes item place nm → HasLength bytes item place other → nm ≡ other }
+{}

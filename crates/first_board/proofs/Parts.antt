@@ -1,14 +1,13 @@
 -- From a value that was read to the part of a zone that it makes.
-use Rattle.std.proofs.Common.{◌≡◌, ℕ, ◌+◌, ◌<◌, ◌≤◌, ◌↔◌, ◌⊎◌, inl, inr, Bool, true, false, List, [], ◌∷◌, length, get_or, Option, Some, None, refl, sym, ap, ◌∙◌, subst, arith, MatchOption, IsTrue, ℤ, pos, ◌*ℤ◌, codes}
+use Rattle.std.proofs.Common.{◌≡◌, ℕ, ◌<◌, ◌≤◌, ◌↔◌, ◌⊎◌, inl, inr, Bool, false, List, [], ◌∷◌, length, get_or, Option, Some, None, refl, sym, ap, ◌∙◌, subst, arith, MatchOption, IsTrue, ℤ, pos, ◌*ℤ◌, codes}
 use Rattle.std.specs.List.{Contains, list_any}
-use Rattle.std.proofs.lemmas.Bool.{false≢true}
 use Rattle.sexpr_text.specs.Items.{Item, children_of}
 use Rattle.sexpr_text.specs.Flat.{IsNode, AreNodes}
 use Rattle.sexpr_text.specs.Flat as flat
 use Rattle.board_fields.specs.Lists.{headed, is_string, lists_of}
-use Rattle.board_fields.specs.Values.{HasText, HasWhole, HasLength, behind_head}
+use Rattle.board_fields.specs.Values.{HasWhole, HasLength}
 use Rattle.board_fields.proofs.Children.{Next, next_child, same_count}
-use Rattle.board_fields.proofs.Leaves.{same_text, same_whole, same_length}
+use Rattle.board_fields.proofs.Leaves.{same_whole, same_length}
 use Rattle.first_board.specs.Declares.{AreLayers, AreNets, EachHas, NoneTwice, HasName, HasNumber, NamesNet}
 use Rattle.first_board.specs.Form.{IsVersion}
 use Rattle.first_board.specs.Tables.{IsTable}

@@ -1,8 +1,7 @@
 -- A text has one board at most.
-use Rattle.std.proofs.Common.{◌≡◌, ℕ, ◌+◌, ◌-◌, ◌<◌, ◌≤◌, ◌⊎◌, inl, inr, true, false, List, ◌∷◌, [], refl, sym, ap, ◌∙◌, subst, arith, ℤ, pos}
+use Rattle.std.proofs.Common.{◌≡◌, ℕ, ◌-◌, ◌<◌, ◌⊎◌, inl, inr, List, ◌∷◌, [], refl, sym, ◌∙◌, subst, arith, ℤ, pos}
 use Rattle.std.proofs.lemmas.Bool.{false≢true, cases_order}
 use Rattle.sexpr_text.specs.Items.{Item}
-use Rattle.board_fields.specs.Lists.{lists_of}
 use Rattle.board_fields.proofs.Leaves.{same_text, same_length}
 use Rattle.first_board.specs.Board.{Shown}
 use Rattle.first_board.specs.Form.{IsFirstForm}

@@ -1,5 +1,5 @@
 -- What is kept of a board of the first form. A unit is 2 nm; x grows to the right and y grows downward.
-use Rattle.std.specs.Prelude.{ℕ, ◌≤◌, List, length, ℤ, pos, neg_ℤ, ◌≤ℤ◌}
+use Rattle.std.specs.Prelude.{ℕ, ◌≤◌, List, ℤ, pos, neg_ℤ, ◌≤ℤ◌}
 use Rattle.first_board.specs.declared.FirstBoard.{FirstBoard}
 
 -- the board without where its layer's name lies in memory

@@ -1,8 +1,8 @@
 -- What a board declares: the names of its layers, and the numbers of its nets.
-use Rattle.std.specs.Prelude.{◌≡◌, ℕ, ◌⊎◌, false, List, codes}
+use Rattle.std.specs.Prelude.{◌≡◌, ℕ, ◌⊎◌, false, List}
 use Rattle.std.specs.List.{All, AllPairs, Any, list_any}
 use Rattle.sexpr_text.specs.Items.{Item, children_of}
-use Rattle.board_fields.specs.Lists.{headed, is_string, lists_of}
+use Rattle.board_fields.specs.Lists.{is_string, lists_of}
 use Rattle.board_fields.specs.Values.{HasText, HasWhole}
 
 -- each of the items has something, as a name or a number

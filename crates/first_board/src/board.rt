@@ -23,7 +23,8 @@ pub(crate) struct BoardLists {
 fn has_board_words(tree: &Tree, bytes: &[u8], root: NodeId) -> bool
     requires below { root < length tree.now }
     requires same { IsTreeOf bytes.now tree.now }
-    ensures { (item : Item) → IsNode tree.now root item → IsTrue result ↔ HasOnly bytes.now board_words item }
+    ensures { (item : Item) → IsNode tree.now root item → IsTrue result
+        ↔ HasOnly bytes.now board_words item }
 {
     let words: [&[u8]; 5] = [b"version", b"generator", b"layers", b"net", b"zone"];
     are_all_headed(tree, bytes, root, &words)
@@ -33,8 +34,12 @@ fn has_board_words(tree: &Tree, bytes: &[u8], root: NodeId) -> bool
 pub(crate) fn board_lists(tree: &Tree, bytes: &[u8], root: NodeId) -> Option<BoardLists>
     requires below { root < length tree.now }
     requires same { IsTreeOf bytes.now tree.now }
-    ensures lists { MatchOption result ((item : Item) → IsNode tree.now root item → HasBoardLists bytes.now item → ⊥) (λ lists. (item : Item) → IsNode tree.now root item → HasBoardLists bytes.now item × AreBoardLists bytes.now tree.now item lists) }
-    ensures below { IfSome result (λ lists. (lists.version < length tree.now) × (lists.layers < length tree.now) × (lists.zone < length tree.now)) }
+    ensures lists { MatchOption result
+        ((item : Item) → IsNode tree.now root item → HasBoardLists bytes.now item → ⊥)
+        (λ lists. (item : Item) → IsNode tree.now root item → HasBoardLists bytes.now item
+        × AreBoardLists bytes.now tree.now item lists) }
+    ensures below { IfSome result (λ lists. (lists.version < length tree.now)
+        × (lists.layers < length tree.now) × (lists.zone < length tree.now)) }
 {
     if !is_headed(tree, bytes, root, b"kicad_pcb") {
         return None;
@@ -76,7 +81,8 @@ pub(crate) fn is_version(
 ) -> Result<bool, Memory>
     requires below { version < length tree.now }
     requires same { IsTreeOf bytes.now tree.now }
-    ensures { IfOk result (λ yes. (item : Item) → IsNode tree.now version item → IsTrue yes ↔ IsVersion bytes.now item) }
+    ensures { IfOk result (λ yes. (item : Item) → IsNode tree.now version item → IsTrue yes
+        ↔ IsVersion bytes.now item) }
 {
     let Some(number) = whole_at(alloc, tree, bytes, version, 0)? else {
         return Ok(false);

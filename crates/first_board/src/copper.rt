@@ -12,7 +12,9 @@ use std::alloc::Global;
 
 /// A thickness from 0.001 mm to 100 mm, in nanometres.
 fn thickness(length: Nm) -> Option<u32>
-    ensures { MatchOption result ((nm : ℕ) → length ≡ pos nm → 1000 ≤ nm → nm ≤ 100000000 → ⊥) (λ nm. (length ≡ pos nm) × (1000 ≤ nm) × (nm ≤ 100000000)) }
+    ensures { MatchOption result
+        ((nm : ℕ) → length ≡ pos nm → 1000 ≤ nm → nm ≤ 100000000 → ⊥)
+        (λ nm. (length ≡ pos nm) × (1000 ≤ nm) × (nm ≤ 100000000)) }
 {
     let nm = length.get();
     if nm < 1_000 {
@@ -33,7 +35,9 @@ pub(crate) fn thickness_of(
 ) -> Result<Option<u32>, Memory>
     requires below { list < length tree.now }
     requires same { IsTreeOf bytes.now tree.now }
-    ensures thickness { IfOk result (λ found. MatchOption found ((item : Item) (nm : ℕ) → IsNode tree.now list item → HasThickness bytes.now item nm → ⊥) (λ nm. (item : Item) → IsNode tree.now list item → HasThickness bytes.now item nm)) }
+    ensures thickness { IfOk result (λ found. MatchOption found
+        ((item : Item) (nm : ℕ) → IsNode tree.now list item → HasThickness bytes.now item nm → ⊥)
+        (λ nm. (item : Item) → IsNode tree.now list item → HasThickness bytes.now item nm)) }
     ensures bounds { IfOk result (λ found. IfSome found (λ nm. (1000 ≤ nm) × (nm ≤ 100000000))) }
 {
     let Some(length) = length_at(alloc, tree, bytes, list, 0)? else {
@@ -51,7 +55,8 @@ pub(crate) fn keeps_islands(
 ) -> Result<bool, Memory>
     requires below { fill < length tree.now }
     requires same { IsTreeOf bytes.now tree.now }
-    ensures { IfOk result (λ yes. (item : Item) → IsNode tree.now fill item → IsTrue yes ↔ KeepsIslands bytes.now item) }
+    ensures { IfOk result (λ yes. (item : Item) → IsNode tree.now fill item → IsTrue yes
+        ↔ KeepsIslands bytes.now item) }
 {
     if count_of(tree, bytes, fill, b"mode") > 0 {
         return Ok(false);

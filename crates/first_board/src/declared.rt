@@ -14,7 +14,8 @@ use std::alloc::Global;
 use std::collections::BTreeSet;
 
 fn put_name(names: &mut BTreeSet<Vec<u8>>, name: Vec<u8>) -> Result<bool, Memory>
-    ensures { IfOk result (λ added. IsPut added (map (λ name. name.items) names.old.keys) (map (λ name. name.items) names.new.keys) name.items) }
+    ensures { IfOk result (λ added. IsPut added (map (λ name. name.items) names.old.keys) (map
+        (λ name. name.items) names.new.keys) name.items) }
 {
     Ok(names.insert(name)?)
 }
@@ -48,7 +49,11 @@ fn names_of(
 ) -> Result<Option<BTreeSet<Vec<u8>>>, Memory>
     requires below { EachIndex layers.now (λ k. slice_index layers.now k < length tree.now) }
     requires same { IsTreeOf bytes.now tree.now }
-    ensures { IfOk result (λ found. MatchOption found ((items : List Item) → AreNodes tree.now layers.now items → EachHas (HasName bytes.now) items → NoneTwice (HasName bytes.now) items → ⊥) (λ names. (items : List Item) → AreNodes tree.now layers.now items → IsTable (HasName bytes.now) items (map (λ name. name.items) names.keys))) }
+    ensures { IfOk result (λ found. MatchOption found
+        ((items : List Item) → AreNodes tree.now layers.now items
+        → EachHas (HasName bytes.now) items → NoneTwice (HasName bytes.now) items → ⊥)
+        (λ names. (items : List Item) → AreNodes tree.now layers.now items
+        → IsTable (HasName bytes.now) items (map (λ name. name.items) names.keys))) }
 {
     let mut names = BTreeSet::new(alloc);
     'each: for layer in layers {
@@ -71,7 +76,11 @@ fn numbers_of(
 ) -> Result<Option<BTreeSet<u32>>, Memory>
     requires below { EachIndex nets.now (λ k. slice_index nets.now k < length tree.now) }
     requires same { IsTreeOf bytes.now tree.now }
-    ensures { IfOk result (λ found. MatchOption found ((items : List Item) → AreNodes tree.now nets.now items → EachHas (HasNumber bytes.now) items → NoneTwice (HasNumber bytes.now) items → ⊥) (λ numbers. (items : List Item) → AreNodes tree.now nets.now items → IsTable (HasNumber bytes.now) items numbers.keys)) }
+    ensures { IfOk result (λ found. MatchOption found
+        ((items : List Item) → AreNodes tree.now nets.now items
+        → EachHas (HasNumber bytes.now) items → NoneTwice (HasNumber bytes.now) items → ⊥)
+        (λ numbers. (items : List Item) → AreNodes tree.now nets.now items
+        → IsTable (HasNumber bytes.now) items numbers.keys)) }
 {
     let mut numbers = BTreeSet::new(alloc);
     'each: for net in nets {
@@ -94,7 +103,10 @@ pub(crate) fn layers_of(
 ) -> Result<Option<BTreeSet<Vec<u8>>>, Memory>
     requires below { layers < length tree.now }
     requires same { IsTreeOf bytes.now tree.now }
-    ensures { IfOk result (λ found. MatchOption found ((item : Item) → IsNode tree.now layers item → AreLayers bytes.now item → ⊥) (λ names. (item : Item) → IsNode tree.now layers item → AreLayers bytes.now item × IsTable (HasName bytes.now) (lists_of item) (map (λ name. name.items) names.keys))) }
+    ensures { IfOk result (λ found. MatchOption found
+        ((item : Item) → IsNode tree.now layers item → AreLayers bytes.now item → ⊥)
+        (λ names. (item : Item) → IsNode tree.now layers item → AreLayers bytes.now item
+        × IsTable (HasName bytes.now) (lists_of item) (map (λ name. name.items) names.keys))) }
 {
     if has_string(tree, layers) {
         return Ok(None);
@@ -113,7 +125,12 @@ pub(crate) fn nets_of(
 ) -> Result<Option<BTreeSet<u32>>, Memory>
     requires below { root < length tree.now }
     requires same { IsTreeOf bytes.now tree.now }
-    ensures { IfOk result (λ found. MatchOption found ((item : Item) → IsNode tree.now root item → AreNets bytes.now (headed bytes.now (codes "net") item) → ⊥) (λ numbers. (item : Item) → IsNode tree.now root item → AreNets bytes.now (headed bytes.now (codes "net") item) × IsTable (HasNumber bytes.now) (headed bytes.now (codes "net") item) numbers.keys)) }
+    ensures { IfOk result (λ found. MatchOption found
+        ((item : Item) → IsNode tree.now root item
+        → AreNets bytes.now (headed bytes.now (codes "net") item) → ⊥)
+        (λ numbers. (item : Item) → IsNode tree.now root item
+        → AreNets bytes.now (headed bytes.now (codes "net") item)
+        × IsTable (HasNumber bytes.now) (headed bytes.now (codes "net") item) numbers.keys)) }
 {
     let nets = headed_lists(alloc, tree, bytes, root, b"net")?;
     let numbers = numbers_of(alloc, tree, bytes, &nets)?;

@@ -25,7 +25,8 @@ use std::collections::BTreeSet;
 
 /// A text has one board of the first form at most.
 pub fn one_board()
-    ensures { (bytes : List ℕ) (root : Item) (b other : Shown) → IsFirstForm bytes root b → IsFirstForm bytes root other → b ≡ other }
+    ensures { (bytes : List ℕ) (root : Item) (b other : Shown) → IsFirstForm bytes root b
+        → IsFirstForm bytes root other → b ≡ other }
 {}
 
 /// The board of a zone, beside the names of the layers and the numbers of the nets.
@@ -40,8 +41,14 @@ fn zone_board(
     requires below { zone < length tree.now }
     requires same { IsTreeOf bytes.now tree.now }
     requires list { (item : Item) → IsNode tree.now zone item → item.kind ≡ kinds.List }
-    ensures board { IfOk result (λ found. (item layers : Item) (nets : List Item) → IsNode tree.now zone item → IsTable (HasName bytes.now) (lists_of layers) (map (λ name. name.items) names.now.keys) → IsTable (HasNumber bytes.now) nets numbers.now.keys → MatchOption found ((b : Shown) → IsZone bytes.now layers nets item b → ⊥) (λ b. IsZone bytes.now layers nets item (shown b))) }
-    ensures bounds { IfOk result (λ found. IfSome found (λ b. IsBounded (length bytes.now) (shown b))) }
+    ensures board { IfOk result (λ found. (item layers : Item) (nets : List Item)
+        → IsNode tree.now zone item → IsTable (HasName bytes.now) (lists_of layers) (map
+        (λ name. name.items) names.now.keys) → IsTable (HasNumber bytes.now) nets numbers.now.keys
+        → MatchOption found
+        ((b : Shown) → IsZone bytes.now layers nets item b → ⊥)
+        (λ b. IsZone bytes.now layers nets item (shown b))) }
+    ensures bounds { IfOk result (λ found. IfSome found
+        (λ b. IsBounded (length bytes.now) (shown b))) }
 {
     let Some(lists) = zone_lists(tree, bytes, zone) else {
         return Ok(None);
@@ -84,8 +91,12 @@ fn root_board(
     requires below { root < length tree.now }
     requires same { IsTreeOf bytes.now tree.now }
     requires node { (item : Item) × IsNode tree.now root item }
-    ensures board { IfOk result (λ found. (item : Item) → IsNode tree.now root item → MatchOption found ((b : Shown) → IsFirstForm bytes.now item b → ⊥) (λ b. IsFirstForm bytes.now item (shown b))) }
-    ensures bounds { IfOk result (λ found. IfSome found (λ b. IsBounded (length bytes.now) (shown b))) }
+    ensures board { IfOk result (λ found. (item : Item) → IsNode tree.now root item
+        → MatchOption found
+        ((b : Shown) → IsFirstForm bytes.now item b → ⊥)
+        (λ b. IsFirstForm bytes.now item (shown b))) }
+    ensures bounds { IfOk result (λ found. IfSome found
+        (λ b. IsBounded (length bytes.now) (shown b))) }
 {
     let Some(lists) = board_lists(tree, bytes, root) else {
         return Ok(None);
@@ -111,8 +122,11 @@ fn root_board(
 pub fn read(alloc: Global, bytes: &[u8], tree: &Tree) -> Result<Option<FirstBoard>, Memory>
     requires { IsTreeOf bytes.now tree.now }
     // The board that the text has, or none where it has none.
-    ensures board { IfOk result (λ found. (root : Item) → IsRoot bytes.now root → MatchOption found ((b : Shown) → IsFirstForm bytes.now root b → ⊥) (λ b. IsFirstForm bytes.now root (shown b))) }
-    ensures bounds { IfOk result (λ found. IfSome found (λ b. IsBounded (length bytes.now) (shown b))) }
+    ensures board { IfOk result (λ found. (root : Item) → IsRoot bytes.now root → MatchOption found
+        ((b : Shown) → IsFirstForm bytes.now root b → ⊥)
+        (λ b. IsFirstForm bytes.now root (shown b))) }
+    ensures bounds { IfOk result (λ found. IfSome found
+        (λ b. IsBounded (length bytes.now) (shown b))) }
 {
     let root = tree.root();
     let found = root_board(alloc, bytes, tree, root)?;

@@ -70,8 +70,10 @@ mod tests {
         assert_eq!(rt; board.bottom, 5_000_000);
         assert_eq!(rt; board.thickness, 250_000);
         assert_eq!(rt; board.layer.as_slice(), b"F.Cu".as_slice());
-        assert!(rt; &BASE.as_bytes()[board.tail - 3..board.tail] == b")))".as_slice());
-        assert!(rt; &BASE.as_bytes()[board.tail..board.tail + 4] == b"\n  )".as_slice());
+        let (front, _) = BASE
+            .split_once("\n  )\n)")
+            .expect(&rt, "the zone ends on a line of its own");
+        assert_eq!(rt; board.tail, front.len());
         Ok(())
     }
 

@@ -25,7 +25,9 @@ pub(crate) struct Rectangle {
 
 /// The units of a length, if it is a whole number of them.
 fn unit_of(length: Nm) -> Option<i64>
-    ensures unit { MatchOption result ((unit : ℤ) → length ≡ (pos 2 *ℤ unit) → ⊥) (λ unit. length ≡ (pos 2 *ℤ unit)) }
+    ensures unit { MatchOption result
+        ((unit : ℤ) → length ≡ (pos 2 *ℤ unit) → ⊥)
+        (λ unit. length ≡ (pos 2 *ℤ unit)) }
     ensures near { IfSome result IsNear }
 {
     let nm = length.get();
@@ -41,7 +43,11 @@ fn unit_at(
 ) -> Result<Option<i64>, Memory>
     requires below { xy < length tree.now }
     requires same { IsTreeOf bytes.now tree.now }
-    ensures unit { IfOk result (λ found. MatchOption found ((item : Item) (unit : ℤ) → IsNode tree.now xy item → HasLength bytes.now item place (pos 2 *ℤ unit) → ⊥) (λ unit. (item : Item) → IsNode tree.now xy item → HasLength bytes.now item place (pos 2 *ℤ unit))) }
+    ensures unit { IfOk result (λ found. MatchOption found
+        ((item : Item) (unit : ℤ) → IsNode tree.now xy item
+        → HasLength bytes.now item place (pos 2 *ℤ unit) → ⊥)
+        (λ unit. (item : Item) → IsNode tree.now xy item
+        → HasLength bytes.now item place (pos 2 *ℤ unit))) }
     ensures near { IfOk result (λ found. IfSome found IsNear) }
 {
     let Some(length) = length_at(alloc, tree, bytes, xy, place)? else {
@@ -54,7 +60,9 @@ fn unit_at(
 fn corner_of(alloc: Global, tree: &Tree, bytes: &[u8], xy: NodeId) -> Result<Option<Point>, Memory>
     requires below { xy < length tree.now }
     requires same { IsTreeOf bytes.now tree.now }
-    ensures corner { IfOk result (λ found. MatchOption found ((item : Item) (x y : ℤ) → IsNode tree.now xy item → IsCorner bytes.now item x y → ⊥) (λ p. (item : Item) → IsNode tree.now xy item → IsCorner bytes.now item p.x p.y)) }
+    ensures corner { IfOk result (λ found. MatchOption found
+        ((item : Item) (x y : ℤ) → IsNode tree.now xy item → IsCorner bytes.now item x y → ⊥)
+        (λ p. (item : Item) → IsNode tree.now xy item → IsCorner bytes.now item p.x p.y)) }
     ensures near { IfOk result (λ found. IfSome found (λ p. IsNear p.x × IsNear p.y)) }
 {
     if !is_headed(tree, bytes, xy, b"xy") {
@@ -78,7 +86,10 @@ fn points_list(
 ) -> Result<Option<NodeId>, Memory>
     requires below { polygon < length tree.now }
     requires same { IsTreeOf bytes.now tree.now }
-    ensures points { IfOk result (λ found. MatchOption found ((item : Item) → IsNode tree.now polygon item → HasPoints bytes.now item → ⊥) (λ points. (item : Item) → IsNode tree.now polygon item → HasPoints bytes.now item × IsNode tree.now points (points_of item))) }
+    ensures points { IfOk result (λ found. MatchOption found
+        ((item : Item) → IsNode tree.now polygon item → HasPoints bytes.now item → ⊥)
+        (λ points. (item : Item) → IsNode tree.now polygon item → HasPoints bytes.now item
+        × IsNode tree.now points (points_of item))) }
     ensures below { IfOk result (λ found. IfSome found (λ points. points < length tree.now)) }
 {
     let lists = all_lists(alloc, tree, polygon)?;
@@ -112,8 +123,11 @@ fn is_below_right(point: Point, of: Point) -> bool
 
 /// The rectangle of four corners, clockwise from the upper left.
 fn rectangle_of(a: Point, b: Point, c: Point, d: Point) -> Option<Rectangle>
-    ensures corners { MatchOption result ((left right top bottom : ℤ) → AreCorners a b c d left right top bottom → ⊥) (λ r. AreCorners a b c d r.left r.right r.top r.bottom) }
-    ensures same { IfSome result (λ r. (r.left ≡ a.x) × (r.right ≡ c.x) × (r.top ≡ a.y) × (r.bottom ≡ c.y)) }
+    ensures corners { MatchOption result
+        ((left right top bottom : ℤ) → AreCorners a b c d left right top bottom → ⊥)
+        (λ r. AreCorners a b c d r.left r.right r.top r.bottom) }
+    ensures same { IfSome result (λ r. (r.left ≡ a.x) × (r.right ≡ c.x) × (r.top ≡ a.y)
+        × (r.bottom ≡ c.y)) }
 {
     if !is_upright(a, b, c, d) {
         return None;
@@ -141,8 +155,13 @@ fn rectangle_in(
 ) -> Result<Option<Rectangle>, Memory>
     requires below { EachIndex lists.now (λ k. slice_index lists.now k < length tree.now) }
     requires same { IsTreeOf bytes.now tree.now }
-    ensures rectangle { IfOk result (λ found. MatchOption found ((items : List Item) (left right top bottom : ℤ) → AreNodes tree.now lists.now items → HasCorners bytes.now items left right top bottom → ⊥) (λ r. (items : List Item) → AreNodes tree.now lists.now items → HasCorners bytes.now items r.left r.right r.top r.bottom)) }
-    ensures near { IfOk result (λ found. IfSome found (λ r. IsNear r.left × IsNear r.right × IsNear r.top × IsNear r.bottom)) }
+    ensures rectangle { IfOk result (λ found. MatchOption found
+        ((items : List Item) (left right top bottom : ℤ) → AreNodes tree.now lists.now items
+        → HasCorners bytes.now items left right top bottom → ⊥)
+        (λ r. (items : List Item) → AreNodes tree.now lists.now items
+        → HasCorners bytes.now items r.left r.right r.top r.bottom)) }
+    ensures near { IfOk result (λ found. IfSome found (λ r. IsNear r.left × IsNear r.right
+        × IsNear r.top × IsNear r.bottom)) }
 {
     if lists.len() != 4 {
         return Ok(None);
@@ -171,8 +190,13 @@ pub(crate) fn outline_of(
 ) -> Result<Option<Rectangle>, Memory>
     requires below { polygon < length tree.now }
     requires same { IsTreeOf bytes.now tree.now }
-    ensures rectangle { IfOk result (λ found. MatchOption found ((item : Item) (left right top bottom : ℤ) → IsNode tree.now polygon item → IsRectangle bytes.now item left right top bottom → ⊥) (λ r. (item : Item) → IsNode tree.now polygon item → IsRectangle bytes.now item r.left r.right r.top r.bottom)) }
-    ensures near { IfOk result (λ found. IfSome found (λ r. IsNear r.left × IsNear r.right × IsNear r.top × IsNear r.bottom)) }
+    ensures rectangle { IfOk result (λ found. MatchOption found
+        ((item : Item) (left right top bottom : ℤ) → IsNode tree.now polygon item
+        → IsRectangle bytes.now item left right top bottom → ⊥)
+        (λ r. (item : Item) → IsNode tree.now polygon item
+        → IsRectangle bytes.now item r.left r.right r.top r.bottom)) }
+    ensures near { IfOk result (λ found. IfSome found (λ r. IsNear r.left × IsNear r.right
+        × IsNear r.top × IsNear r.bottom)) }
 {
     let Some(points) = points_list(alloc, tree, bytes, polygon)? else {
         return Ok(None);

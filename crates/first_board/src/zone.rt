@@ -32,7 +32,8 @@ pub(crate) struct ZoneLists {
 fn has_zone_words(tree: &Tree, bytes: &[u8], zone: NodeId) -> bool
     requires below { zone < length tree.now }
     requires same { IsTreeOf bytes.now tree.now }
-    ensures { (item : Item) → IsNode tree.now zone item → IsTrue result ↔ HasOnly bytes.now zone_words item }
+    ensures { (item : Item) → IsNode tree.now zone item → IsTrue result
+        ↔ HasOnly bytes.now zone_words item }
 {
     let words: [&[u8]; 9] = [
         b"net",
@@ -63,8 +64,13 @@ fn has_few(tree: &Tree, bytes: &[u8], zone: NodeId) -> bool
 pub(crate) fn zone_lists(tree: &Tree, bytes: &[u8], zone: NodeId) -> Option<ZoneLists>
     requires below { zone < length tree.now }
     requires same { IsTreeOf bytes.now tree.now }
-    ensures lists { MatchOption result ((item : Item) → IsNode tree.now zone item → HasZoneLists bytes.now item → ⊥) (λ lists. (item : Item) → IsNode tree.now zone item → HasZoneLists bytes.now item × AreZoneLists bytes.now tree.now item lists) }
-    ensures below { IfSome result (λ lists. (lists.net < length tree.now) × (lists.layer < length tree.now) × (lists.min_thickness < length tree.now) × (lists.fill < length tree.now) × (lists.polygon < length tree.now)) }
+    ensures lists { MatchOption result
+        ((item : Item) → IsNode tree.now zone item → HasZoneLists bytes.now item → ⊥)
+        (λ lists. (item : Item) → IsNode tree.now zone item → HasZoneLists bytes.now item
+        × AreZoneLists bytes.now tree.now item lists) }
+    ensures below { IfSome result (λ lists. (lists.net < length tree.now)
+        × (lists.layer < length tree.now) × (lists.min_thickness < length tree.now)
+        × (lists.fill < length tree.now) × (lists.polygon < length tree.now)) }
 {
     if !has_zone_words(tree, bytes, zone) {
         return None;
@@ -112,7 +118,9 @@ pub(crate) fn has_net(
 ) -> Result<bool, Memory>
     requires below { net < length tree.now }
     requires same { IsTreeOf bytes.now tree.now }
-    ensures { IfOk result (λ yes. (item : Item) (nets : List Item) → IsNode tree.now net item → IsTable (HasNumber bytes.now) nets numbers.now.keys → IsTrue yes ↔ HasNet bytes.now nets item) }
+    ensures { IfOk result (λ yes. (item : Item) (nets : List Item) → IsNode tree.now net item
+        → IsTable (HasNumber bytes.now) nets numbers.now.keys → IsTrue yes
+        ↔ HasNet bytes.now nets item) }
 {
     let Some(number) = whole_at(alloc, tree, bytes, net, 0)? else {
         return Ok(false);
@@ -133,7 +141,8 @@ fn is_copper_layer(name: &[u8]) -> bool
 }
 
 fn is_declared(names: &BTreeSet<Vec<u8>>, name: &[u8]) -> bool
-    ensures { IsTrue result ↔ IsCopperLayer name.now × Contains (map (λ name. name.items) names.now.keys) name.now }
+    ensures { IsTrue result ↔ IsCopperLayer name.now × Contains (map
+        (λ name. name.items) names.now.keys) name.now }
 {
     is_copper_layer(name) && has_name(names, name)
 }
@@ -148,7 +157,11 @@ pub(crate) fn layer_name(
 ) -> Result<Option<Vec<u8>>, Memory>
     requires below { layer < length tree.now }
     requires same { IsTreeOf bytes.now tree.now }
-    ensures { IfOk result (λ found. (item layers : Item) → IsNode tree.now layer item → IsTable (HasName bytes.now) (lists_of layers) (map (λ name. name.items) names.now.keys) → MatchOption found ((name : List ℕ) → HasLayer bytes.now layers item name → ⊥) (λ name. HasLayer bytes.now layers item name.items)) }
+    ensures { IfOk result (λ found. (item layers : Item) → IsNode tree.now layer item
+        → IsTable (HasName bytes.now) (lists_of layers) (map (λ name. name.items) names.now.keys)
+        → MatchOption found
+        ((name : List ℕ) → HasLayer bytes.now layers item name → ⊥)
+        (λ name. HasLayer bytes.now layers item name.items)) }
 {
     if count_behind_head(tree, layer) != 1 {
         return Ok(None);

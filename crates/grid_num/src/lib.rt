@@ -13,7 +13,7 @@ mod write;
 
 pub use memory::Memory;
 pub use nm::Nm;
-pub use read::{NumFault, one_fault, one_length, read_mm};
+pub use read::{NumFault, one_fault, one_length, one_spelling, read_mm};
 pub use write::{MmText, shortest_spelling, write_mm};
 
 /// A plain pair of whole numbers. Each user says its unit.

@@ -73,7 +73,8 @@ fn are_digits(text: &[u8]) -> bool
 fn is_spelt(whole: &[u8], fraction: &[u8]) -> bool
     ensures yes { IsTrue result → All IsAsciiDigit fraction.now }
     ensures some { IsTrue result → 0 < length whole.now + length fraction.now }
-    ensures no { result ≡ false → All IsAsciiDigit fraction.now → 0 < length whole.now + length fraction.now → ⊥ }
+    ensures no { result ≡ false → All IsAsciiDigit fraction.now
+        → 0 < length whole.now + length fraction.now → ⊥ }
 {
     are_digits(fraction) && !(whole.is_empty() && fraction.is_empty())
 }
@@ -187,6 +188,13 @@ pub fn read_mm(text: &[u8]) -> Result<Nm, NumFault>
     Ok(signed(parts.negative, magnitude))
 }
 
+/// A text spells one number at most, by one sign, whole digits and fraction.
+pub fn one_spelling()
+    ensures { (text : List ℕ) (negative other : Bool) (whole others fraction rest : List ℕ)
+        → IsSpelling text negative whole fraction → IsSpelling text other others rest
+        → (negative ≡ other) × (whole ≡ others) × (fraction ≡ rest) }
+{}
+
 /// A text spells one length at most.
 pub fn one_length()
     ensures { (text : List ℕ) (nm other : ℤ) → IsLength text nm → IsLength text other → nm ≡ other }
@@ -194,6 +202,8 @@ pub fn one_length()
 
 /// A text has one fault at most, and it spells no length where it has one.
 pub fn one_fault()
-    ensures one { (text : List ℕ) (fault other : NumFault) → HasFault text fault → HasFault text other → fault ≡ other }
-    ensures no_length { (text : List ℕ) (fault : NumFault) (nm : ℤ) → HasFault text fault → IsLength text nm → ⊥ }
+    ensures one { (text : List ℕ) (fault other : NumFault) → HasFault text fault
+        → HasFault text other → fault ≡ other }
+    ensures no_length { (text : List ℕ) (fault : NumFault) (nm : ℤ) → HasFault text fault
+        → IsLength text nm → ⊥ }
 {}

@@ -88,7 +88,8 @@ fn put_place(left: u64, unit: u64, into: &mut MmText) -> u64
     requires left { left < 10 * unit }
     requires room { length into.old < 11 }
     ensures left { result < unit }
-    ensures text { (k : ℕ) → unit ≡ 10 ^ k → into.new ++ last_places k result ≡ into.old ++ last_places (suc k) left }
+    ensures text { (k : ℕ) → unit ≡ 10 ^ k
+        → into.new ++ last_places k result ≡ into.old ++ last_places (suc k) left }
     ensures room { length into.new ≤ length into.old + 1 }
 {
     if left > 0 {

@@ -1,4 +1,4 @@
-use Rattle.std.proofs.Common.{◌≡◌, ◌∙◌, List, ℕ, map, sym, subst, Vec, Global}
+use Rattle.std.proofs.Common.{◌∙◌, List, ℕ, map, sym, subst, Vec, Global}
 use Rattle.std.specs.BTreeSet.{BTreeSet}
 use Rattle.sexpr_text.specs.Flat.{AreNodes}
 use Rattle.board_fields.specs.Lists.{lists_of}

@@ -1,11 +1,11 @@
-use Rattle.std.proofs.Common.{◌≡◌, ◌∙◌, ◌+◌, List, ℕ, Bool, true, false, take, sym, subst, refl, arith, map, Vec, Global}
+use Rattle.std.proofs.Common.{◌≡◌, ◌+◌, List, ℕ, take, sym, subst, arith, map, Vec, Global}
 use Rattle.std.proofs.lemmas.List.{take_all}
 use Rattle.sexpr_text.specs.Items.{Item}
 use Rattle.board_fields.proofs.Children.{Next, next_child, same_count}
 use Rattle.board_fields.proofs.Leaves.{same_text}
 use Rattle.first_board.specs.Declares.{HasName}
-use Rattle.first_board.specs.Tables.{IsTable, IsPut}
-use Rattle.first_board.proofs.Looked.{within, table_none, table_more, no_value, stands_twice}
+use Rattle.first_board.specs.Tables.{IsTable}
+use Rattle.first_board.proofs.Looked.{within, table_more, no_value, stands_twice}
 use Rattle.first_board.proofs.declared.names_of.Goals as goal
 
 only_value : (bytes : List ℕ) (x : Item) (a b : List ℕ) → HasName bytes x a → HasName bytes x b → a ≡ b

@@ -1,4 +1,4 @@
-use Rattle.std.proofs.Common.{List, ℕ, take}
+use Rattle.std.proofs.Common.{List, take}
 use Rattle.sexpr_text.specs.Items.{Item}
 use Rattle.sexpr_text.specs.Flat.{AreNodes}
 use Rattle.first_board.specs.Declares.{HasNumber}

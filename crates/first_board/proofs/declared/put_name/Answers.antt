@@ -1,4 +1,4 @@
-use Rattle.std.proofs.Common.{nat_cmp, ◌∙◌, sym, ap, map, not, Vec, Global, ℕ}
+use Rattle.std.proofs.Common.{nat_cmp, ◌∙◌, ap, map, not, Vec, Global, ℕ}
 use Rattle.std.specs.Cmp.Lexicographic.{slice_cmp}
 use Rattle.std.specs.Ordering.{is_eq}
 use Rattle.std.proofs.lemmas.Cmp.{nat_list_cmp_total}

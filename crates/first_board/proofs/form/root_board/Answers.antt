@@ -1,4 +1,4 @@
-use Rattle.std.proofs.Common.{codes, List, ℕ, map, Vec, Global}
+use Rattle.std.proofs.Common.{codes}
 use Rattle.std.proofs.lemmas.Bool.{iff_false}
 use Rattle.board_fields.specs.Lists.{headed, the_list}
 use Rattle.first_board.proofs.Roots.{one_kind, board_from}

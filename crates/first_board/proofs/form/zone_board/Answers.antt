@@ -1,12 +1,10 @@
-use Rattle.std.proofs.Common.{◌≡◌, ◌∙◌, ◌+◌, ◌<◌, ◌≤◌, ℕ, List, length, get_or, true, false, sym, ap, subst, arith, rules, codes, SFits, w64, map, Vec, Global}
+use Rattle.std.proofs.Common.{◌∙◌, get_or, ap, arith, rules, codes, SFits, w64}
 use Rattle.std.proofs.lemmas.Bool.{iff_false}
 use Rattle.std.proofs.lemmas.Int.{to_z-of_z}
 use Rattle.sexpr_text.specs.Grammar.{is_space}
 use Rattle.sexpr_text.proofs.Nodes.{Found, found}
 use Rattle.board_fields.specs.Lists.{the_list}
-use Rattle.first_board.specs.Board.{Shown, IsBounded}
-use Rattle.first_board.specs.Zone.{HasZoneLists, IsTail, IsZone}
-use Rattle.first_board.specs.Nodes.{AreZoneLists}
+use Rattle.first_board.specs.Zone.{IsTail}
 use Rattle.first_board.proofs.Roots.{Stands, list_stands, tail_at}
 use Rattle.first_board.proofs.form.zone_board.Goals as goal
 

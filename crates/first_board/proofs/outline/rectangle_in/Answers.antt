@@ -1,4 +1,4 @@
-use Rattle.std.proofs.Common.{◌≡◌, ◌∙◌, sym, ap, get_or, length, arith}
+use Rattle.std.proofs.Common.{◌∙◌, ap, get_or, length, arith}
 use Rattle.board_fields.proofs.Children.{same_count}
 use Rattle.first_board.proofs.Parts.{nth, corners_from}
 use Rattle.first_board.proofs.outline.rectangle_in.Goals as goal
