@@ -1,0 +1,9 @@
+pub mod Count
+pub mod Order
+pub mod Exact
+pub mod Least
+pub mod Unique
+pub mod Wide
+pub mod Scanning
+pub mod Law
+pub mod Plain
