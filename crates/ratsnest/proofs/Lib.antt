@@ -4,6 +4,7 @@ pub mod Exact
 pub mod Least
 pub mod Unique
 pub mod Wide
-pub mod Scanning
 pub mod Law
-pub mod Plain
+pub mod Better
+pub mod Ring
+pub mod Growing

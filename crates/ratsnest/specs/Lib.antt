@@ -1,2 +1,2 @@
 pub mod Ratsnest
-pub mod Scan
+pub mod Best

@@ -1,8 +1,9 @@
-use Rattle.ratsnest.proofs.Plain.{IsOnTheWay, outside}
+use Rattle.std.proofs.Common.{length}
+use Rattle.ratsnest.proofs.Growing.{Growing}
 use Rattle.ratsnest.proofs.grow.grown.Given as goal
 
 abbrev pub invariant-grow : goal.invariant-grow
-invariant-grow l = IsOnTheWay l.anchors l.done.items l.pairs.items
+invariant-grow l = Growing l.anchors l.pairs.items l.left.items
 
 abbrev pub decreases-grow : goal.decreases-grow
-decreases-grow l = outside l.anchors l.done.items
+decreases-grow l = length l.left.items
