@@ -79,6 +79,7 @@ offer_better xs D m o new s t b h = elim b.chosen [
 
 pub better_sound : (xs : List Anchor) (m : ℕ) (o new : Offer) → IsSound xs o → MayMeet xs o.outside m → IsBetter xs m o new → IsSound xs new
 better_sound xs m o new s t b = record {
+  measured = b.measured;
   there = subst (λ z. z < length xs) (sym b.same) s.there;
   is = elim b.chosen [
     | inl k ↦ subst (IsPair xs) (sym k.0) s.is

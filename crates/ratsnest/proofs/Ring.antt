@@ -1,12 +1,13 @@
 -- The offers of all anchors outside, as a cluster comes inside.
 use Rattle.std.proofs.Common.{◌≡◌, refl, sym, subst, ap, ◌∙◌, ℕ, zero, suc, ◌≤◌, ◌<◌, List, [], ◌∷◌, ◌++◌, ◌⊎◌, inl, inr, arith, length, get_or, take}
+use Rattle.std.specs.Prelude.{ℤ, pos}
 use Rattle.std.specs.List.{All}
 use Rattle.std.proofs.lemmas.List.{get_or_default}
 use Rattle.classes.specs.Classes.{IsOneOf}
 use Rattle.ratsnest.specs.declared.Anchor.{Anchor}
 use Rattle.ratsnest.specs.declared.Pair.{Pair}
 use Rattle.ratsnest.specs.declared.offers.Offer.{Offer}
-use Rattle.ratsnest.specs.Ratsnest.{anchor, IsLess}
+use Rattle.ratsnest.specs.Ratsnest.{anchor, IsPair, IsLess, dist_sq}
 use Rattle.ratsnest.specs.Best.{Touches, IsOffer, IsSound, IsImproved, numbers, IsEntering, IsRest, IsRing, IsJoinedBy, IsAbsorbed, IsNearest}
 use Rattle.ratsnest.proofs.Order.{less_irr, less_trans, pair_same, is_one}
 use Rattle.ratsnest.proofs.Better.{offer_wider, one_front, one_back, one_split, take_more}
@@ -203,8 +204,8 @@ pub record IsStarted (xs : List Anchor) (left : List Offer) (k : ℕ) : Type 0 w
   pub offers : All (λ o. IsOffer xs (λ j. IsOneOf j (0 ∷ [])) o) left
   pub whole : (j : ℕ) → j < k → (IsOneOf j (0 ∷ []) → ⊥) → IsOneOf j (numbers left)
 
-abbrev to_first : ℕ → Offer
-to_first k = record { outside = k; best = record { first = 0; second = k } }
+abbrev to_first : ℕ → ℕ → Offer
+to_first k d = record { outside = k; best = record { first = 0; second = k }; length = d }
 
 first_touch : (xs : List Anchor) (k : ℕ) (f : Pair) → 0 < k → Touches xs (λ j. IsOneOf j (0 ∷ [])) k f → f ≡ record { first = 0; second = k }
 unfolding IsOneOf
@@ -216,9 +217,9 @@ first_touch xs k f l t = elim t.ends [
     none : (a b : ℕ) → b ≡ 0 → a < b → ⊥
     none a b e l = omega (arith, e, l)
 
-first_offer : (xs : List Anchor) (k : ℕ) → 0 < k → k < length xs → IsOffer xs (λ j. IsOneOf j (0 ∷ [])) (to_first k)
+first_offer : (xs : List Anchor) (k d : ℕ) → 0 < k → k < length xs → IsOffer xs (λ j. IsOneOf j (0 ∷ [])) (to_first k d)
 unfolding IsOneOf
-first_offer xs k l m = record {
+first_offer xs k d l m = record {
   out = λ i. elim i [ inl e ↦ positive k e l | inr n ↦ n ];
   touches = record { is = record { rising = l; there = m }; ends = inr (refl, inl refl) };
   least = λ f t s. less_irr xs (record { first = 0; second = k }) (subst (λ z. IsLess xs z (record { first = 0; second = k })) (first_touch xs k f l t) s);
@@ -227,11 +228,11 @@ first_offer xs k l m = record {
     positive : (k : ℕ) → k ≡ 0 → 0 < k → ⊥
     positive k e l = omega (arith, e, l)
 
-started_whole : (xs : List Anchor) (left : List Offer) (k j : ℕ) → IsStarted xs left k → j < suc k → (IsOneOf j (0 ∷ []) → ⊥)
-    → IsOneOf j (numbers (left ++ (to_first k ∷ [])))
-started_whole xs left k j s l n = elim (last_one j k l) [
-  | inl m ↦ put_front left (to_first k) j (s.whole j m n)
-  | inr e ↦ put_last left (to_first k) j e
+started_whole : (xs : List Anchor) (left : List Offer) (k d j : ℕ) → IsStarted xs left k → j < suc k → (IsOneOf j (0 ∷ []) → ⊥)
+    → IsOneOf j (numbers (left ++ (to_first k d ∷ [])))
+started_whole xs left k d j s l n = elim (last_one j k l) [
+  | inl m ↦ put_front left (to_first k d) j (s.whole j m n)
+  | inr e ↦ put_last left (to_first k d) j e
 ]
   where
     last_one : (a b : ℕ) → a < suc b → (a < b) ⊎ (a ≡ b)
@@ -248,12 +249,12 @@ started_none xs left e = subst (λ z. IsStarted xs z 1) (sym e) (record {
     only : (j : ℕ) → j < 1 → j ≡ 0
     only j l = omega (arith, l)
 
-pub started_more : (xs : List Anchor) (left : List Offer) (k : ℕ) → 0 < k → k < length xs → IsStarted xs left k
-    → IsStarted xs (left ++ (to_first k ∷ [])) (suc k)
-started_more xs left k l m s = record {
-  sound = all_push (λ o. IsSound xs o) left (to_first k) s.sound (record { there = m; is = record { rising = l; there = m } });
-  offers = all_push (λ o. IsOffer xs (λ j. IsOneOf j (0 ∷ [])) o) left (to_first k) s.offers (first_offer xs k l m);
-  whole = λ j p n. started_whole xs left k j s p n;
+pub started_more : (xs : List Anchor) (left : List Offer) (k d : ℕ) → 0 < k → k < length xs → pos d ≡ dist_sq xs (record { first = 0; second = k })
+    → IsStarted xs left k → IsStarted xs (left ++ (to_first k d ∷ [])) (suc k)
+started_more xs left k d l m e s = record {
+  sound = all_push (λ o. IsSound xs o) left (to_first k d) s.sound (record { there = m; is = record { rising = l; there = m }; measured = e });
+  offers = all_push (λ o. IsOffer xs (λ j. IsOneOf j (0 ∷ [])) o) left (to_first k d) s.offers (first_offer xs k d l m);
+  whole = λ j p n. started_whole xs left k d j s p n;
 }
 
 pub started_all : (xs : List Anchor) (left : List Offer) (k : ℕ) → length xs ≤ k → IsStarted xs left k → IsRing xs (0 ∷ []) left
@@ -304,3 +305,14 @@ nearest_no xs left i d best l n h = record {
 
 pub nearest_all : (xs : List Anchor) (left : List Offer) (i : ℕ) (o : Offer) → length left ≤ i → IsNearestOf xs left i o → IsNearest xs left o
 nearest_all xs left i o l h = record { at = h.found; there = h.there; is = h.is; least = λ k d m. h.least k d (omega (arith, l, m)) }
+
+pub sound_found : (xs : List Anchor) (left : List Offer) (i : ℕ) (o : Offer) → All (λ p. IsSound xs p) left → IsNearestOf xs left i o → IsSound xs o
+sound_found xs left i o s n = subst (IsSound xs) (n.is o) (s n.found o n.there)
+
+pub sound_seen : (xs : List Anchor) (left : List Offer) (i : ℕ) (d : Offer) → All (λ p. IsSound xs p) left → i < length left
+    → pos (get_or left i d).length ≡ dist_sq xs (get_or left i d).best
+sound_seen xs left i d s l = let h : IsSound xs (get_or left i d) = s i d l in h.measured
+
+pub sound_best : (xs : List Anchor) (left : List Offer) (i : ℕ) (o : Offer) → All (λ p. IsSound xs p) left → IsNearestOf xs left i o
+    → pos o.length ≡ dist_sq xs o.best
+sound_best xs left i o s n = let h : IsSound xs o = sound_found xs left i o s n in h.measured

@@ -1,10 +1,10 @@
 -- What the growing keeps: for each anchor outside the joined clusters, its least pair to one inside.
-use Rattle.std.specs.Prelude.{◌≡◌, ◌⊎◌, ℕ, ◌<◌, ◌≤◌, List, length, get_or, map}
+use Rattle.std.specs.Prelude.{◌≡◌, ◌⊎◌, ℕ, pos, ◌<◌, ◌≤◌, List, length, get_or, map}
 use Rattle.std.specs.List.{All}
 use Rattle.ratsnest.specs.declared.Anchor.{Anchor}
 use Rattle.ratsnest.specs.declared.Pair.{Pair}
 use Rattle.ratsnest.specs.declared.offers.Offer.{Offer}
-use Rattle.ratsnest.specs.Ratsnest.{anchor, IsPair, IsLess}
+use Rattle.ratsnest.specs.Ratsnest.{anchor, IsPair, IsLess, dist_sq}
 use Rattle.classes.specs.Classes.{IsOneOf}
 
 -- e has just these two ends
@@ -26,6 +26,7 @@ pub record IsOffer (xs : List Anchor) (D : ℕ → Type 0) (o : Offer) : Type 0 
 pub record IsSound (xs : List Anchor) (o : Offer) : Type 0 where
   pub there : o.outside < length xs
   pub is : IsPair xs o.best
+  pub measured : pos o.length ≡ dist_sq xs o.best
 
 pub record MayMeet (xs : List Anchor) (k m : ℕ) : Type 0 where
   pub there : m < length xs
@@ -36,6 +37,7 @@ pub record IsBetter (xs : List Anchor) (m : ℕ) (o new : Offer) : Type 0 where
   pub same : new.outside ≡ o.outside
   pub pair : Pair
   pub between : IsBetween pair m o.outside
+  pub measured : pos new.length ≡ dist_sq xs new.best
   pub chosen : ((new.best ≡ o.best) × (IsLess xs pair o.best → ⊥)) ⊎ ((new.best ≡ pair) × IsLess xs pair o.best)
 
 -- whatever was inside, the offer is one where the moved ones are inside too

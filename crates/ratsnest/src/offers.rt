@@ -5,16 +5,17 @@ ghost use Rattle.std.specs.List.{All};
 ghost use Rattle.ratsnest.specs.Ratsnest.{IsNearby, IsPair, IsTree, anchor};
 ghost use Rattle.ratsnest.specs.Best.{IsBetween, IsBetter, IsImproved, IsSound, IsEntering, IsRest, IsRing, IsAbsorbed, IsNearest, MayMeet};
 
-use crate::key::{anchor_at, is_less};
+use crate::key::{anchor_at, dist, is_less};
 use crate::{Anchor, Pair};
 use grid_num::Memory;
 use std::alloc::Global;
 
-// An anchor outside the joined clusters, and its pair of least key to an anchor inside.
+// An anchor outside the joined clusters, its pair of least key to an anchor inside, and the square of their distance.
 #[derive(Clone, Copy, Drop)]
 pub(crate) struct Offer {
     pub(crate) outside: u32,
     pub(crate) best: Pair,
+    length: u64,
 }
 
 // The pair of two anchors.
@@ -43,10 +44,12 @@ fn better(anchors: &[Anchor], o: Offer, m: u32) -> Offer
     ensures { IsBetter anchors.now m o result }
 {
     let e = pair_of(m, o.outside);
-    if is_less(anchors, e, o.best) {
+    let length = dist(anchors, e);
+    if is_less(e, length, o.best, o.length) {
         Offer {
             outside: o.outside,
             best: e,
+            length,
         }
     } else {
         o
@@ -132,7 +135,7 @@ pub(crate) fn nearest(anchors: &[Anchor], left: &[Offer]) -> Offer
 {
     let mut best = left[0];
     'each: for o in left {
-        if is_less(anchors, o.best, best.best) {
+        if is_less(o.best, o.length, best.best, best.length) {
             best = *o;
         }
     }
@@ -142,17 +145,20 @@ pub(crate) fn nearest(anchors: &[Anchor], left: &[Offer]) -> Offer
 // The offers where anchor 0 alone is inside.
 pub(crate) fn first_offers(alloc: Global, anchors: &[Anchor]) -> Result<Vec<Offer>, Memory>
     requires some { 0 < length anchors.now }
+    requires near { All IsNearby anchors.now }
     requires count { length anchors.now < 2 ^ 32 }
     ensures { IfOk result (λ left. IsRing anchors.now (0 ∷ []) left.items) }
 {
     let mut left = Vec::new(alloc);
     'each: for k in 1..anchors.len() as u32 {
+        let best = Pair {
+            first: 0,
+            second: k,
+        };
         left.push(Offer {
             outside: k,
-            best: Pair {
-                first: 0,
-                second: k,
-            },
+            best,
+            length: dist(anchors, best),
         })?;
     }
     Ok(left)

@@ -4,8 +4,8 @@ ghost use Rattle.std.specs.List.{All};
 ghost use Rattle.ratsnest.specs.Ratsnest.{IsNearby};
 
 use crate::{Anchor, Pair, check_tree, tree};
-use grid_num::{Memory, Point};
-use std::alloc::Global;
+use grid_num::Point;
+use std::alloc::{AllocError, Global};
 use std::test::Fail;
 
 fn is_send_and_sync<T: Send + Sync>(_value: &T) {}
@@ -70,5 +70,100 @@ fn one_cluster_needs_no_line(rt: HostRuntime) -> Result<(), Fail> {
     let apart = [anchor(0, 0, 7), anchor(5, 0, 8)];
     assert!(rt; check_tree(rt.alloc(), &apart, &[]) == Ok(false));
     assert!(rt; check_tree(rt.alloc(), &apart, &[line(0, 1)]) == Ok(true));
+    Ok(())
+}
+
+// An anchor at small coordinates.
+fn near(x: u32, y: u32, cluster: u32) -> Anchor
+    requires x { x ≤ 1000000 }
+    requires y { y ≤ 1000000 }
+    ensures { IsNearby result }
+{
+    anchor(i64::from(x), i64::from(y), cluster)
+}
+
+// Anchors at grid points of a square, in some of the clusters, by a linear congruential generator.
+fn generated(alloc: Global, n: u32, side: u32, clusters: u32, seed: u32) -> Result<Vec<Anchor>, AllocError>
+    requires some_side { 0 < side }
+    requires side { side ≤ 1000000 }
+    requires clusters { 0 < clusters }
+    ensures near { IfOk result (λ v. All IsNearby v.items) }
+    ensures count { IfOk result (λ v. length v.items ≡ n) }
+{
+    let mut anchors = Vec::new(alloc);
+    let mut state = seed;
+    'each: for i in 0..n {
+        let x = state.wrapping_mul(1_664_525).wrapping_add(1_013_904_223);
+        let y = x.wrapping_mul(1_664_525).wrapping_add(1_013_904_223);
+        state = y.wrapping_mul(1_664_525).wrapping_add(1_013_904_223);
+        anchors.push(near((x >> 8) % side, (y >> 8) % side, (state >> 8) % clusters))?;
+    }
+    Ok(anchors)
+}
+
+fn squared(a: Anchor, b: Anchor) -> i64 {
+    let dx = a.at.x.wrapping_sub(b.at.x);
+    let dy = a.at.y.wrapping_sub(b.at.y);
+    dx.wrapping_mul(dx).wrapping_add(dy.wrapping_mul(dy))
+}
+
+// The least key of a pair with just one end in the joined clusters.
+fn least_leaving(anchors: &[Anchor], joined: &[u32]) -> Option<(i64, usize, usize)> {
+    let mut best = None;
+    for (i, a) in anchors.iter().enumerate() {
+        for (j, b) in anchors.iter().enumerate() {
+            if i < j && joined.contains(&a.cluster) != joined.contains(&b.cluster) {
+                best = lesser(best, (squared(*a, *b), i, j));
+            }
+        }
+    }
+    best
+}
+
+fn lesser(best: Option<(i64, usize, usize)>, key: (i64, usize, usize)) -> Option<(i64, usize, usize)> {
+    match best {
+        Some(old) if old < key => Some(old),
+        _ => Some(key),
+    }
+}
+
+// Whether the pairs are those of a plain search over all pairs, each time.
+fn is_searched(alloc: Global, anchors: &[Anchor], pairs: &[Pair]) -> Result<bool, AllocError> {
+    let mut joined = Vec::new(alloc);
+    if let Some(a) = anchors.first() {
+        joined.push(a.cluster)?;
+    }
+    for pair in pairs {
+        let (i, j) = (pair.first as usize, pair.second as usize);
+        let (Some(a), Some(b)) = (anchors.get(i), anchors.get(j)) else {
+            return Ok(false);
+        };
+        if least_leaving(anchors, &joined) != Some((squared(*a, *b), i, j)) {
+            return Ok(false);
+        }
+        joined.push(a.cluster)?;
+        joined.push(b.cluster)?;
+    }
+    Ok(least_leaving(anchors, &joined).is_none())
+}
+
+// A dozen anchors on a grid of four by four places have many equal distances.
+#[test]
+fn ties_are_broken_as_a_plain_search_breaks_them(rt: HostRuntime) -> Result<(), Fail> {
+    for seed in 0..200u32 {
+        let anchors = generated(rt.alloc(), 12, 4, 1 + seed % 12, seed)?;
+        let lines = tree(rt.alloc(), &anchors).ok().ok_or("no memory")?;
+        assert!(rt; is_searched(rt.alloc(), &anchors, &lines)?, "at {seed}");
+    }
+    Ok(())
+}
+
+// A whole ground net: 20,000 anchors, each its own cluster but for chance, within seconds.
+#[test]
+fn a_large_net_takes_seconds(rt: HostRuntime) -> Result<(), Fail> {
+    let anchors = generated(rt.alloc(), 20_000, 1_000_000, 16_000_000, 1)?;
+    let lines = tree(rt.alloc(), &anchors).ok().ok_or("no memory")?;
+    assert!(rt; lines.len() > 19_900);
+    assert!(rt; lines.len() < 20_000);
     Ok(())
 }

@@ -6,7 +6,7 @@ pub each-init : goal.each-init
 each-init c = started_none _ _ c.new-left.ensures.items
 
 pub each-preserved : goal.each-preserved
-each-preserved c = rw (add-one c.each.k, c.in_ok-push.ensures.items) (started_more _ _ _ (omega arith) (omega arith) c.each.invariant)
+each-preserved c = rw (add-one c.each.k, c.in_ok-push.ensures.items) (started_more _ _ _ _ (omega arith) (omega arith) c.dist.ensures c.each.invariant)
 
 pub returns : goal.returns
 returns c = started_all _ _ c.each.k (omega arith) c.each.invariant
