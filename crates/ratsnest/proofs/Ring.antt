@@ -1,13 +1,13 @@
 -- The offers of all anchors outside, as a cluster comes inside.
 use Rattle.std.proofs.Common.{◌≡◌, refl, sym, subst, ap, ◌∙◌, ℕ, zero, suc, ◌≤◌, ◌<◌, List, [], ◌∷◌, ◌++◌, ◌⊎◌, inl, inr, arith, length, get_or, take}
-use Rattle.std.specs.Prelude.{ℤ, pos}
+use Rattle.std.specs.Prelude.{pos}
 use Rattle.std.specs.List.{All}
 use Rattle.std.proofs.lemmas.List.{get_or_default}
 use Rattle.classes.specs.Classes.{IsOneOf}
 use Rattle.ratsnest.specs.declared.Anchor.{Anchor}
 use Rattle.ratsnest.specs.declared.Pair.{Pair}
 use Rattle.ratsnest.specs.declared.offers.Offer.{Offer}
-use Rattle.ratsnest.specs.Ratsnest.{anchor, IsPair, IsLess, dist_sq}
+use Rattle.ratsnest.specs.Ratsnest.{anchor, IsLess, dist_sq}
 use Rattle.ratsnest.specs.Best.{Touches, IsOffer, IsSound, IsImproved, numbers, IsEntering, IsRest, IsRing, IsJoinedBy, IsAbsorbed, IsNearest}
 use Rattle.ratsnest.proofs.Order.{less_irr, less_trans, pair_same, is_one}
 use Rattle.ratsnest.proofs.Better.{offer_wider, one_front, one_back, one_split, take_more}
@@ -52,7 +52,7 @@ numbers_put : (left : List Offer) (o : Offer) → numbers (left ++ (o ∷ [])) �
 numbers_put [] o = refl
 numbers_put (p ∷ left) o = ap (λ z. p.outside ∷ z) (numbers_put left o)
 
-longer_by_one : {A : Type 0} (xs : List A) (x : A) → length (xs ++ (x ∷ [])) ≡ suc (length xs)
+pub longer_by_one : {A : Type 0} (xs : List A) (x : A) → length (xs ++ (x ∷ [])) ≡ suc (length xs)
 longer_by_one [] x = refl
 longer_by_one (y ∷ ys) x = ap suc (longer_by_one ys x)
 
