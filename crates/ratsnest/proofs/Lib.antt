@@ -1,0 +1,10 @@
+pub mod Count
+pub mod Order
+pub mod Exact
+pub mod Least
+pub mod Unique
+pub mod Wide
+pub mod Law
+pub mod Better
+pub mod Ring
+pub mod Growing

@@ -1,0 +1,84 @@
+-- What the growing keeps: for each anchor outside the joined clusters, its least pair to one inside.
+use Rattle.std.specs.Prelude.{◌≡◌, ◌⊎◌, ℕ, pos, ◌<◌, ◌≤◌, List, length, get_or, map}
+use Rattle.std.specs.List.{All}
+use Rattle.ratsnest.specs.declared.Anchor.{Anchor}
+use Rattle.ratsnest.specs.declared.Pair.{Pair}
+use Rattle.ratsnest.specs.declared.offers.Offer.{Offer}
+use Rattle.ratsnest.specs.Ratsnest.{anchor, IsPair, IsLess, dist_sq}
+use Rattle.classes.specs.Classes.{IsOneOf}
+
+-- e has just these two ends
+pub record IsBetween (e : Pair) (i j : ℕ) : Type 0 where
+  pub rising : e.first < e.second
+  pub ends : ((e.first ≡ i) × (e.second ≡ j)) ⊎ ((e.first ≡ j) × (e.second ≡ i))
+
+-- f goes from k to an anchor in D
+pub record Touches (xs : List Anchor) (D : ℕ → Type 0) (k : ℕ) (f : Pair) : Type 0 where
+  pub is : IsPair xs f
+  pub ends : ((f.first ≡ k) × D f.second) ⊎ ((f.second ≡ k) × D f.first)
+
+-- an offer where the anchors in D are inside
+pub record IsOffer (xs : List Anchor) (D : ℕ → Type 0) (o : Offer) : Type 0 where
+  pub out : D o.outside → ⊥
+  pub touches : Touches xs D o.outside o.best
+  pub least : (f : Pair) → Touches xs D o.outside f → IsLess xs f o.best → ⊥
+
+pub record IsSound (xs : List Anchor) (o : Offer) : Type 0 where
+  pub there : o.outside < length xs
+  pub is : IsPair xs o.best
+  pub measured : pos o.length ≡ dist_sq xs o.best
+
+pub record MayMeet (xs : List Anchor) (k m : ℕ) : Type 0 where
+  pub there : m < length xs
+  pub other : m ≡ k → ⊥
+
+-- the better one of the offer and its pair with m
+pub record IsBetter (xs : List Anchor) (m : ℕ) (o new : Offer) : Type 0 where
+  pub same : new.outside ≡ o.outside
+  pub pair : Pair
+  pub between : IsBetween pair m o.outside
+  pub measured : pos new.length ≡ dist_sq xs new.best
+  pub chosen : ((new.best ≡ o.best) × (IsLess xs pair o.best → ⊥)) ⊎ ((new.best ≡ pair) × IsLess xs pair o.best)
+
+-- whatever was inside, the offer is one where the moved ones are inside too
+pub record IsImproved (xs : List Anchor) (moved : List ℕ) (o new : Offer) : Type 0 where
+  pub same : new.outside ≡ o.outside
+  pub sound : IsSound xs new
+  pub offer : (inside : List ℕ) → IsOffer xs (λ j. IsOneOf j inside) o → IsOffer xs (λ j. IsOneOf j inside ⊎ IsOneOf j moved) new
+
+abbrev pub numbers : List Offer → List ℕ
+numbers left = map (λ o. o.outside) left
+
+pub record IsEntering (xs : List Anchor) (c : ℕ) (left : List Offer) (moved : List ℕ) : Type 0 where
+  pub these : All (λ m. (m < length xs) × ((anchor xs m).cluster ≡ c)) moved
+  pub whole : (k : ℕ) → IsOneOf k (numbers left) → (anchor xs k).cluster ≡ c → IsOneOf k moved
+
+pub record IsRest (xs : List Anchor) (c : ℕ) (moved : List ℕ) (left rest : List Offer) : Type 0 where
+  pub offers : (inside : List ℕ) → All (λ o. IsOffer xs (λ j. IsOneOf j inside) o) left
+      → All (λ o. IsOffer xs (λ j. IsOneOf j inside ⊎ IsOneOf j moved) o) rest
+  pub sound : All (λ o. IsSound xs o) rest
+  pub whole : (k : ℕ) → IsOneOf k (numbers left) → ((anchor xs k).cluster ≡ c → ⊥) → IsOneOf k (numbers rest)
+  pub most : length rest ≤ length left
+  pub fewer : (k : ℕ) → IsOneOf k (numbers left) → (anchor xs k).cluster ≡ c → length rest < length left
+
+-- offers of all anchors outside
+pub record IsRing (xs : List Anchor) (inside : List ℕ) (left : List Offer) : Type 0 where
+  pub sound : All (λ o. IsSound xs o) left
+  pub offers : All (λ o. IsOffer xs (λ j. IsOneOf j inside) o) left
+  pub whole : (k : ℕ) → k < length xs → (IsOneOf k inside → ⊥) → IsOneOf k (numbers left)
+
+-- with the anchors of the cluster inside too
+pub record IsJoinedBy (xs : List Anchor) (c : ℕ) (inside more : List ℕ) : Type 0 where
+  pub old : (k : ℕ) → IsOneOf k inside → IsOneOf k more
+  pub new : (k : ℕ) → IsOneOf k more → IsOneOf k inside ⊎ ((anchor xs k).cluster ≡ c)
+  pub whole : (k : ℕ) → k < length xs → (anchor xs k).cluster ≡ c → IsOneOf k more
+
+pub record IsAbsorbed (xs : List Anchor) (c : ℕ) (left rest : List Offer) : Type 0 where
+  pub ring : (inside : List ℕ) → IsRing xs inside left → (more : List ℕ) × IsJoinedBy xs c inside more × IsRing xs more rest
+  pub fewer : (k : ℕ) → IsOneOf k (numbers left) → (anchor xs k).cluster ≡ c → length rest < length left
+
+pub record IsNearest (xs : List Anchor) (left : List Offer) (o : Offer) : Type 0 where
+  pub at : ℕ
+  pub there : at < length left
+  pub is : (d : Offer) → get_or left at d ≡ o
+  pub least : All (λ p. IsLess xs p.best o.best → ⊥) left

@@ -1,0 +1,2 @@
+pub mod Ratsnest
+pub mod Best
