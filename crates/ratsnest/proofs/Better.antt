@@ -112,7 +112,7 @@ one_split x [] ys i = inr i
 one_split x (z ∷ xs) ys (inl e) = inl (inl e)
 one_split x (z ∷ xs) ys (inr i) = elim (one_split x xs ys i) [ inl j ↦ inl (inr j) | inr j ↦ inr j ]
 
-no_place : (A : Type 0) (i : ℕ) → i < length {A = A} [] → ⊥
+pub no_place : (A : Type 0) (i : ℕ) → i < length {A = A} [] → ⊥
 no_place A i l = omega (arith, l)
 
 pub take_more : {A : Type 0} (xs : List A) (i : ℕ) (d : A) → i < length xs → take (suc i) xs ≡ take i xs ++ (get_or xs i d ∷ [])

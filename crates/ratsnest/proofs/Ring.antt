@@ -10,10 +10,7 @@ use Rattle.ratsnest.specs.declared.offers.Offer.{Offer}
 use Rattle.ratsnest.specs.Ratsnest.{anchor, IsLess, dist_sq}
 use Rattle.ratsnest.specs.Best.{Touches, IsOffer, IsSound, IsImproved, numbers, IsEntering, IsRest, IsRing, IsJoinedBy, IsAbsorbed, IsNearest}
 use Rattle.ratsnest.proofs.Order.{less_irr, less_trans, pair_same, is_one}
-use Rattle.ratsnest.proofs.Better.{offer_wider, one_front, one_back, one_split, take_more}
-
-no_place : (A : Type 0) (i : ℕ) → i < length {A = A} [] → ⊥
-no_place A i l = omega (arith, l)
+use Rattle.ratsnest.proofs.Better.{no_place, offer_wider, one_front, one_back, one_split, take_more}
 
 not_second : {A : Type 0} (x : A) (i : ℕ) → suc i < length (x ∷ []) → ⊥
 not_second x i l = omega (arith, l)

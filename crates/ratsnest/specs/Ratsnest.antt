@@ -120,6 +120,7 @@ pub record IsLeastTree (xs : List Anchor) (es : List Pair) : Type 0 where
   pub fewer : HasOneFewer xs es
   pub least : (others : List Pair) (square : ℤ) → IsJoining xs others → longer xs square es ≤ longer xs square others
 
+-- the ratsnest in joining order is a least tree, and one list alone is that
 pub record TreeLaw : Type 0 where
   pub least : (xs : List Anchor) (es : List Pair) → IsTree xs es → IsLeastTree xs es
   pub one : (xs : List Anchor) (es fs : List Pair) → IsTree xs es → IsTree xs fs → es ≡ fs

@@ -22,7 +22,7 @@ pub(crate) fn grown(alloc: Global, anchors: &[Anchor]) -> Result<Vec<Pair>, Memo
     let start = first_offers(alloc, anchors)?;
     let mut left = absorbed(alloc, anchors, &start, anchors[0].cluster)?;
     'grow: while !left.is_empty() {
-        let line = nearest(anchors, &left);
+        let line = nearest(&left);
         pairs.push(line.best)?;
         let cluster = anchor_at(anchors, line.outside).cluster;
         left = absorbed(alloc, anchors, &left, cluster)?;

@@ -3,6 +3,7 @@
 ghost use Rattle.std.specs.Prelude.{◌≡◌, ◌⊎◌, ℕ, ◌<◌, ◌≤◌, ◌^◌, List, [], ◌∷◌, length, IfOk};
 ghost use Rattle.std.specs.List.{All};
 ghost use Rattle.ratsnest.specs.Ratsnest.{IsNearby, IsPair, IsTree, anchor};
+ghost use Rattle.ratsnest.specs.declared.Anchor.{Anchor};
 ghost use Rattle.ratsnest.specs.Best.{IsBetween, IsBetter, IsImproved, IsSound, IsEntering, IsRest, IsRing, IsAbsorbed, IsNearest, MayMeet};
 
 use crate::key::{anchor_at, dist, is_less};
@@ -127,11 +128,9 @@ pub(crate) fn absorbed(
 }
 
 // The offer of least key.
-pub(crate) fn nearest(anchors: &[Anchor], left: &[Offer]) -> Offer
+pub(crate) fn nearest(left: &[Offer]) -> Offer
     requires some { 0 < length left.now }
-    requires near { All IsNearby anchors.now }
-    requires sound { All (λ o. IsSound anchors.now o) left.now }
-    ensures { IsNearest anchors.now left.now result }
+    ensures { (xs : List Anchor) → All (λ o. IsSound xs o) left.now → IsNearest xs left.now result }
 {
     let mut best = left[0];
     'each: for o in left {
