@@ -1,0 +1,4 @@
+pub mod Rules
+pub mod Side
+pub mod Faults
+pub mod Search
