@@ -5,3 +5,4 @@ pub mod SideTests
 pub mod Crossings
 pub mod Halves
 pub mod OneFault
+pub mod Scaled

@@ -2,3 +2,4 @@ pub mod Rules
 pub mod Side
 pub mod Faults
 pub mod Search
+pub mod Places

@@ -8,6 +8,7 @@ ghost use Rattle.std.specs.List.{All};
 ghost use Rattle.plane.specs.Plane.{Bounds, PlanePoint, Within, In, IsOct};
 ghost use Rattle.outline_slab.specs.Rules.{IsSimple, IsWithin};
 
+mod covers;
 mod crossing;
 mod error;
 pub mod laws;

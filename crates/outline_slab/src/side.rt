@@ -35,16 +35,17 @@ pub fn side_at(corners: &[Point], i: usize) -> Side
 
 impl Side {
     // How far the side goes to the right.
-    fn run(self) -> i64
+    pub fn run(self) -> i64
         requires start { IsInSpan self.start }
         requires finish { IsInSpan self.finish }
-        ensures { result ≡ self.finish.x -ℤ self.start.x }
+        ensures value { result ≡ self.finish.x -ℤ self.start.x }
+        ensures range { IsNearZero 1000000000 result }
     {
         self.finish.x - self.start.x
     }
 
     // How far it goes down.
-    fn rise(self) -> i64
+    pub fn rise(self) -> i64
         requires start { IsInSpan self.start }
         requires finish { IsInSpan self.finish }
         ensures value { result ≡ self.finish.y -ℤ self.start.y }
@@ -75,7 +76,7 @@ impl Side {
     }
 
     // The same side the other way.
-    fn turned(self) -> Side
+    pub fn turned(self) -> Side
         ensures start { result.start ≡ self.finish }
         ensures finish { result.finish ≡ self.start }
     {

@@ -1,8 +1,10 @@
 // What no clause says: vertices and answers worked out by hand from the rules, and that outlines cross threads.
-ghost use Rattle.outline_slab.specs.Rules.{IsInSpan};
+ghost use Rattle.std.specs.Prelude.{◌^◌};
+ghost use Rattle.outline_slab.specs.Rules.{IsInSpan, IsWithin};
 
 use crate::{Outline, OutlineError, OutlineFault};
 use grid_num::Point;
+use std::alloc::Global;
 use std::test::Fail;
 
 fn is_send_and_sync<T: Send + Sync>(_value: &T) {}
@@ -96,21 +98,44 @@ fn edges_that_share_a_point_are_refused(rt: HostRuntime) {
     );
 }
 
+// A square of 10 mm with a notch of 45 degrees in its top, in hundredths of a millimetre:
+//
+//   0,0 1,0                       1000,0
+//    |_| \                       / |
+//    |     \                   /   |
+//    |       \               /     |
+//    |         500,499_501,499     |
+//    |_____________________________|
+//   0,1000                        1000,1000
+const NOTCHED: [(i16, i16); 7] = [
+    (0, 0),
+    (0, 1000),
+    (1000, 1000),
+    (1000, 0),
+    (501, 499),
+    (500, 499),
+    (1, 0),
+];
+
+fn notched(alloc: Global) -> Option<Outline> {
+    let [a, b, c, d, e, f, g] = NOTCHED;
+    let points = [
+        at(a.0, a.1),
+        at(b.0, b.1),
+        at(c.0, c.1),
+        at(d.0, d.1),
+        at(e.0, e.1),
+        at(f.0, f.1),
+        at(g.0, g.1),
+    ];
+    Outline::make(alloc, &points).ok()
+}
+
 #[test]
 fn notches_and_slants_are_outlines(rt: HostRuntime) -> Result<(), Fail> {
-    // a square of 10 mm with a notch of 45 degrees in its top
-    let points = [
-        at(0, 0),
-        at(0, 1000),
-        at(1000, 1000),
-        at(1000, 0),
-        at(501, 499),
-        at(500, 499),
-        at(1, 0),
-    ];
-    let outline = Outline::make(rt.alloc(), &points).ok().ok_or("an outline")?;
+    let outline = notched(rt.alloc()).ok_or("an outline")?;
     is_send_and_sync(&outline);
-    // 5.01 mm are 2,505,000 units of 2 nm
+    // 5.01 mm and 4.99 mm are 2,505,000 and 2,495,000 units of 2 nm
     assert!(rt;
         outline.vertices().contains(&Point {
             x: 2505000,
@@ -126,5 +151,54 @@ fn notches_and_slants_are_outlines(rt: HostRuntime) -> Result<(), Fail> {
         (frame.s0(), frame.s1(), frame.d0(), frame.d1()),
         (0, 10000000, -5000000, 5000000)
     );
+    Ok(())
+}
+
+// A place in hundredths of a millimetre, 5,000 units each, at the scale 1024, moved to the right by parts of a unit.
+fn place(x: i16, y: i16, nudge: i8) -> Point
+    ensures { IsWithin (2 ^ 50) result }
+{
+    Point {
+        x: x as i64 * 5120000 + nudge as i64,
+        y: y as i64 * 5120000,
+    }
+}
+
+#[test]
+fn edges_are_covered_and_notches_are_not(rt: HostRuntime) -> Result<(), Fail> {
+    let outline = notched(rt.alloc()).ok_or("an outline")?;
+    let table = [
+        // the slanted edges run along x - y = 1 and x + y = 1000
+        (250, 249, 0, true),
+        (250, 249, -1, true),
+        (250, 249, 1, false),
+        (750, 250, 0, true),
+        (750, 250, -1, false),
+        (750, 250, 1, true),
+        // the corners of the notch, its bottom, and their row to the left and to the right
+        (501, 499, 0, true),
+        (500, 499, 1, true),
+        (500, 498, 1, false),
+        (-1, 499, 0, false),
+        (0, 499, -1, false),
+        (0, 499, 1, true),
+        (1001, 499, 0, false),
+        // the top row goes along an edge, over the notch and through a corner
+        (0, 0, 1, true),
+        (1, 0, 1, false),
+        (1000, 0, 0, true),
+        (1000, 0, 1, false),
+        // the bottom edge
+        (500, 1000, 0, true),
+        (500, 1001, 0, false),
+        (1200, 1000, 0, false),
+    ];
+    for (x, y, nudge, covered) in table {
+        assert_eq!(rt;
+            outline.covers(place(x, y, nudge), 1024),
+            covered,
+            "{x} {y} {nudge}"
+        );
+    }
     Ok(())
 }
