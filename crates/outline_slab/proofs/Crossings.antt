@@ -1,12 +1,12 @@
 -- When two edges of a chain cross, by what the code tests.
-use Rattle.std.proofs.Common.{◌≡◌, refl, sym, ◌∙◌, ap, subst, ℕ, suc, ◌+◌, ◌<◌, ◌≤◌, ◌⊎◌, inl, inr, arith, List, length, get_or, Bool}
-use Rattle.std.specs.Prelude.{ℤ, ◌-ℤ◌, ◌↔◌, IsTrue}
+use Rattle.std.proofs.Common.{◌≡◌, sym, ◌∙◌, ap, subst, ℕ, ◌<◌, ◌≤◌, inl, inr, arith, List, length, get_or, Bool}
+use Rattle.std.specs.Prelude.{◌-ℤ◌, ◌↔◌, IsTrue}
 use Rattle.std.specs.List.{All}
-use Rattle.plane.specs.Plane.{PlanePoint, Bounds, In, IsMeeting, IsSame, grid_point}
+use Rattle.plane.specs.Plane.{PlanePoint, Bounds, In, IsMeeting}
 use Rattle.grid_num.specs.declared.Point.{Point}
 use Rattle.covering.specs.Covering.{Edge, IsOn, edges_of}
 use Rattle.covering.specs.Edges.{IsOctilinear}
-use Rattle.outline_slab.specs.Rules.{IsSide, IsNext, IsJoint, AreCrossing, edge, no_edge, no_corner}
+use Rattle.outline_slab.specs.Rules.{IsSide, IsNext, AreCrossing, edge, no_edge, no_corner}
 use Rattle.outline_slab.specs.Side.{IsSameSign}
 use Rattle.outline_slab.proofs.Chain.{edges_length, edge_start, edge_next, edge_last}
 use Rattle.outline_slab.proofs.Folds.{way, IsFolded, IsShared, shared_folded, folded_shared}

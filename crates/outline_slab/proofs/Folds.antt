@@ -1,10 +1,10 @@
 -- Neighbouring edges have a point in common other than their common end exactly where the second goes back along the
 -- first.
-use Rattle.std.proofs.Common.{◌≡◌, refl, ℕ, suc, ◌≤◌, ◌⊎◌, inl, inr, arith}
-use Rattle.std.specs.Prelude.{ℤ, pos, neg_ℤ, ◌+ℤ◌, ◌-ℤ◌, ◌*ℤ◌, ◌≤ℤ◌, ◌<ℤ◌, ◌↔◌}
+use Rattle.std.proofs.Common.{◌≡◌, refl, ◌⊎◌, inl, inr, arith}
+use Rattle.std.specs.Prelude.{ℤ, pos, neg_ℤ, ◌+ℤ◌, ◌-ℤ◌, ◌*ℤ◌, ◌<ℤ◌}
 use Rattle.std.proofs.lemmas.Int.{ints, by_lt_z}
 use Rattle.plane.specs.Plane.{PlanePoint, IsSame, grid_point}
-use Rattle.plane.proofs.Times.{mul_le, mul_lt, mul_add, mul_sub}
+use Rattle.plane.proofs.Times.{mul_lt, mul_add, mul_sub}
 use Rattle.grid_num.specs.declared.Point.{Point}
 use Rattle.covering.specs.Covering.{Edge, IsOn, Between}
 use Rattle.covering.specs.Edges.{IsOctilinear, turned}

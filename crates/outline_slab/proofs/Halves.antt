@@ -1,18 +1,18 @@
 -- What holds of corners in nanometres holds of them in units of 2 nm.
-use Rattle.std.proofs.Common.{◌≡◌, refl, sym, ◌∙◌, ap, subst, ℕ, zero, suc, ◌+◌, ◌<◌, ◌≤◌, ◌⊎◌, inl, inr, arith, List, [], ◌∷◌, length, get_or}
-use Rattle.std.specs.Prelude.{ℤ, pos, neg_ℤ, ◌+ℤ◌, ◌-ℤ◌, ◌*ℤ◌, map}
+use Rattle.std.proofs.Common.{◌≡◌, refl, sym, ◌∙◌, ap, subst, ℕ, ◌<◌, inl, inr, arith, List, [], ◌∷◌, length, get_or}
+use Rattle.std.specs.Prelude.{ℤ, pos, ◌+ℤ◌, ◌-ℤ◌, ◌*ℤ◌, map}
 use Rattle.std.specs.List.{All}
 use Rattle.std.proofs.lemmas.Int.{ints}
 use Rattle.std.proofs.lemmas.List.{length-map, get_or-map, get_or_default}
 use Rattle.plane.specs.Plane.{PlanePoint, IsSame, grid_point}
-use Rattle.plane.proofs.Times.{mul_add, mul_sub}
+use Rattle.plane.proofs.Times.{mul_add}
 use Rattle.grid_num.specs.declared.Point.{Point}
 use Rattle.covering.specs.Covering.{Edge, IsOn, Between, edges_to, edges_of}
 use Rattle.covering.specs.Edges.{IsOctilinear}
 use Rattle.covering.specs.Units.{finer}
 use Rattle.covering.proofs.On.{at, on_level, level_on, on_upright, upright_on, on_rise, rise_on, on_fall, fall_on}
-use Rattle.outline_slab.specs.Rules.{IsSide, IsNext, IsJoint, AreCrossing, IsSimple, IsWithin, IsInSpan, IsKept, edge, no_edge, no_corner}
-use Rattle.outline_slab.proofs.Chain.{edges_length, same_point}
+use Rattle.outline_slab.specs.Rules.{IsSide, IsNext, IsJoint, AreCrossing, IsSimple, IsWithin, IsInSpan, IsKept, edge, no_edge}
+use Rattle.outline_slab.proofs.Chain.{edges_length}
 use Rattle.outline_slab.proofs.Crossings.{side_of}
 
 -- the edge, and the point, in nanometres

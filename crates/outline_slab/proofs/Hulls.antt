@@ -1,8 +1,8 @@
 -- The least octagon round the two ends of a level, upright or slanted edge has just the points of the edge.
-use Rattle.std.proofs.Common.{◌≡◌, refl, ℕ, suc, ◌≤◌, ◌⊎◌, inl, inr, arith}
-use Rattle.std.specs.Prelude.{ℤ, pos, neg_ℤ, ◌+ℤ◌, ◌-ℤ◌, ◌*ℤ◌, ◌≤ℤ◌, ◌<ℤ◌, ◌↔◌}
+use Rattle.std.proofs.Common.{◌≡◌, ℕ, inl, inr, arith}
+use Rattle.std.specs.Prelude.{ℤ, pos, neg_ℤ, ◌+ℤ◌, ◌-ℤ◌, ◌*ℤ◌, ◌≤ℤ◌, ◌↔◌}
 use Rattle.std.proofs.lemmas.Int.{ints, by_lt_z}
-use Rattle.plane.specs.Plane.{PlanePoint, Bounds, Within, times, In}
+use Rattle.plane.specs.Plane.{PlanePoint, Bounds, Within, In}
 use Rattle.plane.proofs.Times.{mul_le, mul_add, mul_sub}
 use Rattle.covering.specs.Covering.{Edge, IsOn, Between}
 use Rattle.covering.specs.Edges.{IsOctilinear}
@@ -160,10 +160,10 @@ on_among e p (inr (inr (inr f))) o =
     }
 
 -- bounds on both ends are bounds between them
-above : (k : ℕ) (low u v z : ℤ) → low ≤ℤ u → low ≤ℤ v → Between (pos k *ℤ u) (pos k *ℤ v) z → (pos k *ℤ low) ≤ℤ z
+pub above : (k : ℕ) (low u v z : ℤ) → low ≤ℤ u → low ≤ℤ v → Between (pos k *ℤ u) (pos k *ℤ v) z → (pos k *ℤ low) ≤ℤ z
 above k low u v z g h b = let m = mul_le k low u g in let n = mul_le k low v h in omega (arith, ints)
 
-below : (k : ℕ) (high u v z : ℤ) → u ≤ℤ high → v ≤ℤ high → Between (pos k *ℤ u) (pos k *ℤ v) z → z ≤ℤ (pos k *ℤ high)
+pub below : (k : ℕ) (high u v z : ℤ) → u ≤ℤ high → v ≤ℤ high → Between (pos k *ℤ u) (pos k *ℤ v) z → z ≤ℤ (pos k *ℤ high)
 below k high u v z g h b = let m = mul_le k u high g in let n = mul_le k v high h in omega (arith, ints)
 
 pub on_in : (e : Edge) (r : Bounds) (p : PlanePoint) → IsOctilinear e → Within r e.start.x e.start.y → Within r e.finish.x e.finish.y → IsOn e p → In r p

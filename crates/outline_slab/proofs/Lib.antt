@@ -6,3 +6,5 @@ pub mod Crossings
 pub mod Halves
 pub mod OneFault
 pub mod Scaled
+pub mod Sorted
+pub mod LeastPair

@@ -1,11 +1,11 @@
 -- Corners have at most one fault, and an outline has none.
-use Rattle.std.proofs.Common.{◌≡◌, refl, ap, ◌∙◌, ℕ, ◌<◌, ◌≤◌, ◌⊎◌, inl, inr, arith, List, length, get_or}
+use Rattle.std.proofs.Common.{◌≡◌, refl, ap, ◌∙◌, ℕ, inl, inr, arith, List}
 use Rattle.std.specs.List.{All}
 use Rattle.std.proofs.lemmas.Bool.{cases_order}
 use Rattle.grid_num.specs.declared.Point.{Point}
 use Rattle.covering.specs.Covering.{Edge, edges_of}
-use Rattle.outline_slab.specs.Rules.{IsOnGrid, IsSide, AreCrossing, IsOutline, no_corner, no_edge}
-use Rattle.outline_slab.specs.Faults.{IsFirstOff, IsBefore, IsLeastCrossing, HasFault, OneFaultLaw, NoFaultLaw}
+use Rattle.outline_slab.specs.Rules.{IsOnGrid, IsSide, no_corner, no_edge}
+use Rattle.outline_slab.specs.Faults.{IsFirstOff, IsLeastCrossing, OneFaultLaw, NoFaultLaw}
 use Rattle.outline_slab.specs.declared.error.OutlineFault.{OutlineFault}
 use Rattle.outline_slab.specs.declared.error.OutlineFault.TheVariants.{Short, OffGrid, OffAngle, Crossing}
 

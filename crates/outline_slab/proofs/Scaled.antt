@@ -1,6 +1,6 @@
 -- How large products by a scale are, and what the tests of a side at a place mean.
-use Rattle.std.proofs.Common.{◌≡◌, refl, sym, ◌∙◌, ap, subst, ℕ, zero, suc, ◌+◌, ◌*◌, ◌<◌, ◌≤◌, ◌%◌, ◌^◌, ◌⊎◌, inl, inr, arith, Bool, true, false, cond, List, [], ◌∷◌, length, get_or, take}
-use Rattle.std.specs.Prelude.{ℤ, pos, negsuc, neg_ℤ, ◌+ℤ◌, ◌-ℤ◌, ◌*ℤ◌, ◌≤ℤ◌, ◌<ℤ◌, ◌↔◌, IsTrue, int_lt, int_le, ◌&&◌, sum_by, Any}
+use Rattle.std.proofs.Common.{◌≡◌, refl, sym, ◌∙◌, ap, subst, ℕ, ◌+◌, ◌*◌, ◌<◌, ◌≤◌, ◌^◌, inl, inr, arith, Bool, true, false, cond, List, length, get_or, take}
+use Rattle.std.specs.Prelude.{ℤ, pos, negsuc, ◌-ℤ◌, ◌*ℤ◌, ◌≤ℤ◌, ◌<ℤ◌, ◌↔◌, IsTrue, int_lt, int_le, ◌&&◌, sum_by}
 use Rattle.std.specs.Int.RustNames.{unsigned_abs}
 use Rattle.std.proofs.Math.Nat.{mul-le-mul_left}
 use Rattle.std.specs.List.{All}
@@ -12,7 +12,6 @@ use mir.Syntax.{w64, w128}
 use Rattle.std.proofs.lemmas.Bool.{true≢false}
 use Rattle.plane.specs.Plane.{PlanePoint}
 use Rattle.plane.specs.Narrow.{IsNearZero}
-use Rattle.plane.proofs.Times.{mul_le}
 use Rattle.grid_num.specs.declared.Point.{Point}
 use Rattle.covering.specs.Covering.{Edge, IsOn, IsOdd, Between, Covers, crossing, crossings, down_crossing, edges_of}
 use Rattle.covering.proofs.Counts.{less_true, less_false, most_true, most_false, none_up}

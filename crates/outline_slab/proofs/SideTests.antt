@@ -1,6 +1,6 @@
 -- What the tests of a side's run and rise mean.
-use Rattle.std.proofs.Common.{◌≡◌, refl, sym, ap, ◌⊎◌, inl, inr, arith, Bool, subst}
-use Rattle.std.specs.Prelude.{ℤ, pos, neg_ℤ, ◌-ℤ◌, ◌↔◌, IsTrue}
+use Rattle.std.proofs.Common.{◌≡◌, sym, ap, inl, inr, arith, Bool, subst}
+use Rattle.std.specs.Prelude.{ℤ, pos, ◌-ℤ◌, ◌↔◌, IsTrue}
 use Rattle.std.proofs.lemmas.Int.{ints}
 use Rattle.covering.specs.Covering.{Edge}
 use Rattle.covering.specs.Edges.{IsOctilinear}

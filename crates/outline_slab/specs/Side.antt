@@ -1,5 +1,5 @@
 -- The edges of a chain as the code has them.
-use Rattle.std.specs.Prelude.{◌≡◌, ◌<◌, ◌⊎◌, ℤ, pos, neg_ℤ, ◌<ℤ◌}
+use Rattle.std.specs.Prelude.{◌≡◌, ◌⊎◌, ℤ, pos, neg_ℤ, ◌<ℤ◌}
 use Rattle.covering.specs.Covering.{Edge}
 use Rattle.outline_slab.specs.declared.side.Side.{Side}
 

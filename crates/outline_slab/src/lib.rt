@@ -13,6 +13,7 @@ mod crossing;
 mod error;
 pub mod laws;
 mod make;
+mod rows;
 mod side;
 #[cfg(test)]
 mod tests;

@@ -32,7 +32,7 @@ impl Outline {
         if let Some(index) = first_off_angle(vertices) {
             return Err(OutlineError::Bad(OutlineFault::OffAngle { index }));
         }
-        if let Some((first, second)) = least_crossing(vertices) {
+        if let Some((first, second)) = least_crossing(alloc, vertices)? {
             return Err(OutlineError::Bad(OutlineFault::Crossing { first, second }));
         }
         Ok(Outline {

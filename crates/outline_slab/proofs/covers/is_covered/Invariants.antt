@@ -1,4 +1,4 @@
-use Rattle.std.proofs.Common.{ℕ, ◌<◌, take, get_or}
+use Rattle.std.proofs.Common.{ℕ, ◌<◌, take}
 use Rattle.std.specs.Prelude.{◌↔◌, IsTrue, sum_by, slice_index_or}
 use Rattle.plane.specs.Plane.{PlanePoint}
 use Rattle.covering.specs.Covering.{Edge, IsOn, IsOdd, crossing, edges_of}

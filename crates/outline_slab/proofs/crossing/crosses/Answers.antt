@@ -1,4 +1,4 @@
-use Rattle.std.proofs.Common.{◌≡◌, ℕ, ◌+◌, ◌<◌, ◌⊎◌, inl, inr, arith, length}
+use Rattle.std.proofs.Common.{◌≡◌, ℕ, ◌+◌, ◌<◌, inl, inr, arith, length}
 use Rattle.outline_slab.specs.Rules.{IsNext}
 use Rattle.outline_slab.specs.Side.{edge_of}
 use Rattle.outline_slab.proofs.Crossings.{side_octilinear, near_test, far_test, turned_test}

@@ -1,27 +1,18 @@
-use Rattle.std.proofs.Common.{◌≡◌, ℕ, ◌<◌, ◌⊎◌, inl, inr, sym, subst, arith, below_more, length}
-use Rattle.outline_slab.specs.Rules.{AreCrossing}
+use Rattle.std.proofs.Common.{ℕ, arith, below_more, length}
+use Rattle.outline_slab.specs.Search.{MissesLater}
+use Rattle.outline_slab.proofs.LeastPair.{better_later, least_found}
 use Rattle.outline_slab.proofs.crossing.least_crossing.Goals as goal
 
-pub returns-in-Some : goal.returns-in-Some
-returns-in-Some c =
-    let at = c.in-Some.ensures in
-    let i = c.first.i in
+pub place-preserved : goal.place-preserved
+place-preserved c =
     let cs = c.args.corners.now in
-    record {
-      order = at.order;
-      within = at.within;
-      crossing = at.crossing;
-      least = λ k l h g before. elim before [
-        | inl b ↦ c.first.invariant k l b h g
-        | inr b ↦ (λ x. at.first l (omega (arith, b.0)) b.1 (subst (λ (m : ℕ). AreCrossing cs m l) b.0 x))
-      ];
-    }
-
-pub first-preserved : goal.first-preserved
-first-preserved c =
-    let P : ℕ → Type 0 = λ k. (m : ℕ) → k < m → m < length c.args.corners.now → AreCrossing c.args.corners.now k m → ⊥ in
-    let all = below_more P c.first.i (λ k l m h g. c.first.invariant k m l h g) c.in_default.ensures in
-    λ k m l h g. all k l m h g
+    let rows = c.in_ok-rows.rows.items in
+    let best = c.with_later-best.result in
+    let P : ℕ → Type 0 = λ u. MissesLater cs rows best u (length rows) in
+    let here = rw c.deref.ensures.value at c.with_later-best.ensures.missed in
+    let all = below_more P c.place.place (λ u l. better_later cs rows c.place.best best u (length rows) c.with_later-best.ensures.better (c.place.invariant.missed u l)) here in
+    record { found = c.with_later-best.ensures.better.found; missed = λ u l. all u l }
 
 pub returns : goal.returns
-returns c = λ i j h g. c.first.invariant i j (omega arith) h g
+returns c =
+    least_found c.args.corners.now c.in_ok-rows.rows.items c.place.best c.in_ok-rows.ensures c.place.invariant.found (λ u l. c.place.invariant.missed u (omega arith))

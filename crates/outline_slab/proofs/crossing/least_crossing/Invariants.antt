@@ -1,7 +1,9 @@
 use Rattle.std.proofs.Common.{ℕ, ◌<◌, length}
-use Rattle.outline_slab.specs.Rules.{AreCrossing}
+use Rattle.outline_slab.specs.Search.{MissesLater, IsFound}
 use Rattle.outline_slab.proofs.crossing.least_crossing.Given as goal
 
--- no pair whose first edge was looked at crosses
-abbrev pub invariant-first : goal.invariant-first
-invariant-first l = (k m : ℕ) → k < l.i → k < m → m < length l.corners → AreCrossing l.corners k m → ⊥
+abbrev pub invariant-place : goal.invariant-place
+invariant-place l = record {
+  found : IsFound l.corners l.best;
+  missed : (u : ℕ) → u < l.place → MissesLater l.corners l.rows.items l.best u (length l.rows.items);
+}

@@ -1,4 +1,4 @@
-use Rattle.std.proofs.Common.{ℕ, ◌<◌, subst, arith, below_more, get_or, length}
+use Rattle.std.proofs.Common.{ℕ, subst, below_more, get_or}
 use Rattle.std.proofs.lemmas.Bool.{iff_false}
 use Rattle.std.proofs.lemmas.List.{get_or_default}
 use Rattle.grid_num.specs.declared.Point.{Point}

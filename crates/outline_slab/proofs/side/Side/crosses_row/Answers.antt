@@ -1,7 +1,5 @@
-use Rattle.std.proofs.Common.{◌≡◌, ◌∙◌, ap, arith}
+use Rattle.std.proofs.Common.{arith}
 use Rattle.std.proofs.lemmas.Int.{ints}
-use Rattle.covering.specs.Covering.{down_crossing}
-use Rattle.grid_num.specs.declared.Point.{Point}
 use Rattle.outline_slab.specs.Side.{edge_of}
 use Rattle.outline_slab.proofs.Scaled.{down_crosses, up_crosses}
 use Rattle.outline_slab.proofs.side.Side.crosses_row.Goals as goal

@@ -1,5 +1,5 @@
-use Rattle.std.proofs.Common.{ℕ, zero, suc, ◌<◌, arith, List, [], ◌∷◌, length, get_or}
-use Rattle.plane.specs.Plane.{Bounds, PlanePoint, Within, In}
+use Rattle.std.proofs.Common.{ℕ, zero, suc, ◌<◌, arith, [], ◌∷◌, get_or}
+use Rattle.plane.specs.Plane.{Bounds, Within}
 use Rattle.grid_num.specs.declared.Point.{Point}
 use Rattle.outline_slab.specs.Side.{edge_of}
 use Rattle.outline_slab.proofs.Hulls.{hull_law}

@@ -1,0 +1,19 @@
+use Rattle.std.proofs.Common.{ap, arith}
+use Rattle.std.specs.Prelude.{ℤ}
+use Rattle.std.proofs.lemmas.Int.{ints}
+use Rattle.covering.specs.Covering.{Edge}
+use Rattle.outline_slab.proofs.rows.row_of.Goals as goal
+
+pub returns-clause-row : goal.returns-clause-row
+returns-clause-row c =
+    let x : Edge → ℤ = λ e. e.start.y in
+    let y : Edge → ℤ = λ e. e.finish.y in
+    let s = ap x c.side_at-side.ensures.edge in
+    let f = ap y c.side_at-side.ensures.edge in
+    record {
+      within = c.requires.within;
+      top_start = omega (arith, ints);
+      top_finish = omega (arith, ints);
+      bottom_start = omega (arith, ints);
+      bottom_finish = omega (arith, ints);
+    }
