@@ -1,11 +1,12 @@
 -- The search for the least crossing pair, step by step.
-use Rattle.std.proofs.Common.{◌≡◌, ◌∙◌, ap, ℕ, zero, suc, ◌+◌, ◌<◌, ◌≤◌, inl, inr, arith, add-one, List, length, get_or}
+use Rattle.std.proofs.Common.{◌≡◌, sym, ◌∙◌, ap, ℕ, zero, suc, ◌+◌, ◌<◌, ◌≤◌, inl, inr, arith, add-one, List, [], ◌∷◌, ◌++◌, length, get_or}
 use Rattle.std.specs.Prelude.{pos, ◌≤ℤ◌, ◌<ℤ◌, Option, None, Some, MatchOption, Contains}
 use Rattle.std.specs.List.Sorted.{IsPermutation}
 use Rattle.std.proofs.lemmas.Int.{ints}
 use Rattle.std.proofs.lemmas.Bool.{cases_order, cases_lt}
-use Rattle.std.proofs.lemmas.List.{get_or_default}
+use Rattle.std.proofs.lemmas.List.{get_or_default, get_or_append_left, get_or_push}
 use Rattle.std.proofs.lemmas.List.Sorted.{All-permutation, Contains-permutation}
+use Rattle.plane.specs.Plane.{Bounds, IsMeeting}
 use Rattle.plane.proofs.Times.{mul_le_back}
 use Rattle.grid_num.specs.declared.Point.{Point}
 use Rattle.outline_slab.specs.Rules.{AreCrossing, NoneCrossing}
@@ -77,6 +78,14 @@ apart_later cs rows best u m v d e f r hu hm hv h =
 pub index_read : (rows : List Row) (u : ℕ) (d e : Row) → u < length rows → (get_or rows u e).index ≡ (get_or rows u d).index
 index_read rows u d e h = ap (λ (w : Row). w.index) (get_or_default rows u e d h)
 
+-- edges whose octagons do not meet do not cross
+pub hulls_apart : (cs : List Point) (r s : Row) → IsRow cs r → IsRow cs s → (IsMeeting r.hull s.hull → ⊥) → AreCrossing cs r.index s.index → ⊥
+unfolding IsMeeting
+hulls_apart cs r s a b h x = h (x.at, (a.hull x.at).1 x.first, (b.hull x.at).1 x.second)
+
+abbrev pub no_hull : Bounds
+no_hull = record { x0 = pos 0; x1 = pos 0; y0 = pos 0; y1 = pos 0; s0 = pos 0; s1 = pos 0; d0 = pos 0; d1 = pos 0 }
+
 -- ---- all pairs
 all_missed : (cs : List Point) (rows : List Row) (best : Option (ℕ × ℕ)) → AreRows cs rows
     → ((u : ℕ) → u < length rows → MissesLater cs rows best u (length rows)) → (i j : ℕ) → Misses cs best i j
@@ -84,7 +93,7 @@ all_missed cs rows best r m i j o w =
     pair (r.every i (omega arith)).0 (r.every j w).0 (r.every i (omega arith)).1 (r.every j w).1
   where
     none : Row
-    none = record { top = pos 0; bottom = pos 0; index = 0 }
+    none = record { top = pos 0; bottom = pos 0; hull = no_hull; index = 0 }
 
     pair : (u v : ℕ) → IsRowAt rows i u → IsRowAt rows j v → IsBeforeBest i j best → AreCrossing cs i j → ⊥
     pair u v a b = elim (cases_order u v) [
@@ -116,7 +125,17 @@ sorted_rows cs rows sorted a p s = record {
 }
   where
     none : Row
-    none = record { top = pos 0; bottom = pos 0; index = 0 }
+    none = record { top = pos 0; bottom = pos 0; hull = no_hull; index = 0 }
 
     at : (i : ℕ) → (get_or rows i none).index ≡ i → Contains sorted (get_or rows i none) → (u : ℕ) × IsRowAt sorted i u
     at i e c = (c.0, record { place = c.1; index = λ d. index_read sorted c.0 (get_or rows i none) d c.1 ∙ (ap (λ (w : Row). w.index) c.2 ∙ e) })
+
+-- ---- one more row
+pub pushed_index : (rows : List Row) (r : Row) (i : ℕ) → length rows ≡ i → ((u : ℕ) (d : Row) → u < i → (get_or rows u d).index ≡ u) → r.index ≡ i
+    → (u : ℕ) (d : Row) → u < i + 1 → (get_or (rows ++ r ∷ []) u d).index ≡ u
+pushed_index rows r i n all one u d h = elim (cases_lt u i) [
+  | inl l ↦ ap (λ (w : Row). w.index) (get_or_append_left rows (r ∷ []) d u (omega arith)) ∙ all u d l
+  | inr l ↦
+      (let e : length rows ≡ u = omega arith in
+      ap (λ (w : Row). w.index) (get_or_push rows r d u e) ∙ (one ∙ (sym n ∙ e)))
+]

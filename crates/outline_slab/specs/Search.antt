@@ -1,18 +1,21 @@
 -- The search for the least pair of crossing edges, along the rows that the edges take.
-use Rattle.std.specs.Prelude.{◌≡◌, ℕ, ◌+◌, ◌<◌, ◌≤ℤ◌, List, length, Option, None, Some, slice_index_or}
+use Rattle.std.specs.Prelude.{◌≡◌, ℕ, ◌+◌, ◌<◌, ◌≤ℤ◌, ◌↔◌, List, length, Option, None, Some, slice_index_or}
 use Rattle.std.specs.List.{All}
+use Rattle.plane.specs.Plane.{PlanePoint, In}
 use Rattle.grid_num.specs.declared.Point.{Point}
+use Rattle.covering.specs.Covering.{IsOn}
 use Rattle.outline_slab.specs.Rules.{AreCrossing, edge}
 use Rattle.outline_slab.specs.Faults.{IsBefore}
 use Rattle.outline_slab.specs.declared.rows.Row.{Row}
 
--- the edge of that index lies between the two rows
+-- the edge of that index lies between the two rows, and the octagon has just its points
 pub record IsRow (cs : List Point) (r : Row) : Type 0 where
   pub within : r.index < length cs
   pub top_start : r.top ≤ℤ (edge cs r.index).start.y
   pub top_finish : r.top ≤ℤ (edge cs r.index).finish.y
   pub bottom_start : (edge cs r.index).start.y ≤ℤ r.bottom
   pub bottom_finish : (edge cs r.index).finish.y ≤ℤ r.bottom
+  pub hull : (p : PlanePoint) → In r.hull p ↔ IsOn (edge cs r.index) p
 
 -- place u of the list is that of edge i
 pub record IsRowAt (rows : List Row) (i u : ℕ) : Type 0 where

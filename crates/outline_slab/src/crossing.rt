@@ -4,7 +4,7 @@ ghost use Rattle.std.specs.List.{All};
 ghost use Rattle.covering.specs.Covering.{edges_of};
 ghost use Rattle.outline_slab.specs.Rules.{IsInSpan, IsSide, AreCrossing, NoneCrossing};
 ghost use Rattle.outline_slab.specs.Faults.{IsLeastCrossing};
-ghost use Rattle.outline_slab.specs.Search.{AreRows, IsBeforeBest, IsFound, Misses, MissesLater, IsBetter};
+ghost use Rattle.outline_slab.specs.Search.{IsRow, AreRows, IsBeforeBest, IsFound, Misses, MissesLater, IsBetter};
 
 use crate::rows::{Row, from_the_top};
 use crate::side::side_at;
@@ -88,6 +88,28 @@ fn with_either(
     best
 }
 
+// The same for two edges whose octagons are at hand: most of them do not meet.
+fn with_rows(
+    corners: &[Point],
+    best: Option<(usize, usize)>,
+    first: &Row,
+    second: &Row,
+) -> Option<(usize, usize)>
+    requires three { 3 ≤ length corners.now }
+    requires span { All IsInSpan corners.now }
+    requires sides { All IsSide (edges_of corners.now) }
+    requires found { IsFound corners.now best }
+    requires first { IsRow corners.now first.now }
+    requires second { IsRow corners.now second.now }
+    ensures better { IsBetter corners.now best result }
+    ensures missed { Misses corners.now result first.now.index second.now.index × Misses corners.now result second.now.index first.now.index }
+{
+    if !first.hull.meets(&second.hull) {
+        return best;
+    }
+    with_either(corners, best, first.index, second.index)
+}
+
 // The best pair so far, or one of the edge at a place and an edge of a later place whose rows overlap.
 fn with_later(
     corners: &[Point],
@@ -104,13 +126,13 @@ fn with_later(
     ensures better { IsBetter corners.now best result }
     ensures missed { MissesLater corners.now rows.now result place (length rows.now) }
 {
-    let row = rows[place];
+    let row = &rows[place];
     let mut best = best;
     'later: for later in place + 1..rows.len() {
-        if row.is_above(rows[later]) {
+        if row.is_above(&rows[later]) {
             return best;
         }
-        best = with_either(corners, best, row.index, rows[later].index);
+        best = with_rows(corners, best, row, &rows[later]);
     }
     best
 }

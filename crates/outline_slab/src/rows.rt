@@ -1,25 +1,28 @@
 // The rows that the edges of a closed chain take.
 ghost use Rattle.std.specs.Prelude.{◌≡◌, ◌<◌, ◌↔◌, ◌≤ℤ◌, ◌<ℤ◌, length, IsTrue, IfOk};
 ghost use Rattle.std.specs.List.{All};
-ghost use Rattle.outline_slab.specs.Rules.{IsInSpan};
+ghost use Rattle.covering.specs.Covering.{edges_of};
+ghost use Rattle.outline_slab.specs.Rules.{IsInSpan, IsSide};
 ghost use Rattle.outline_slab.specs.Search.{AreEdgeRows, AreRows, IsRow};
 
 use crate::side::side_at;
 use grid_num::{Memory, Point};
+use octagon::Oct;
 use std::alloc::Global;
 
-/// The rows from the top of an edge to its bottom, and the edge's index.
+/// An edge by its index, the rows that it takes, and the octagon that has just its points.
 #[derive(Clone, Copy)]
 pub struct Row {
     pub top: i64,
     pub bottom: i64,
+    pub hull: Oct,
     pub index: usize,
 }
 
 impl Row {
     // Whether the edge ends above the top of the other one.
-    pub fn is_above(self, other: Row) -> bool
-        ensures { IsTrue result ↔ (self.bottom <ℤ other.top) }
+    pub fn is_above(&self, other: &Row) -> bool
+        ensures { IsTrue result ↔ (self.now.bottom <ℤ other.now.top) }
     {
         self.bottom < other.top
     }
@@ -27,7 +30,8 @@ impl Row {
 
 // All edges with their rows, from the top.
 pub fn from_the_top(alloc: Global, corners: &[Point]) -> Result<Vec<Row>, Memory>
-    requires { All IsInSpan corners.now }
+    requires span { All IsInSpan corners.now }
+    requires sides { All IsSide (edges_of corners.now) }
     ensures { IfOk result (λ v. AreRows corners.now v.items) }
 {
     let mut rows = rows_of(alloc, corners)?;
@@ -37,7 +41,8 @@ pub fn from_the_top(alloc: Global, corners: &[Point]) -> Result<Vec<Row>, Memory
 
 // All edges with their rows, in the order of the chain.
 fn rows_of(alloc: Global, corners: &[Point]) -> Result<Vec<Row>, Memory>
-    requires { All IsInSpan corners.now }
+    requires span { All IsInSpan corners.now }
+    requires sides { All IsSide (edges_of corners.now) }
     ensures { IfOk result (λ v. AreEdgeRows corners.now v.items) }
 {
     let mut rows = Vec::with_capacity(alloc, corners.len())?;
@@ -50,6 +55,7 @@ fn rows_of(alloc: Global, corners: &[Point]) -> Result<Vec<Row>, Memory>
 fn row_of(corners: &[Point], i: usize) -> Row
     requires within { i < length corners.now }
     requires span { All IsInSpan corners.now }
+    requires sides { All IsSide (edges_of corners.now) }
     ensures row { IsRow corners.now result }
     ensures index { result.index ≡ i }
 {
@@ -57,6 +63,7 @@ fn row_of(corners: &[Point], i: usize) -> Row
     Row {
         top: lesser(side.start.y, side.finish.y),
         bottom: greater(side.start.y, side.finish.y),
+        hull: side.hull(),
         index: i,
     }
 }

@@ -1,7 +1,9 @@
-use Rattle.std.proofs.Common.{ap, arith}
+use Rattle.std.proofs.Common.{subst, ◌↔◌, ap, arith}
 use Rattle.std.specs.Prelude.{ℤ}
 use Rattle.std.proofs.lemmas.Int.{ints}
-use Rattle.covering.specs.Covering.{Edge}
+use Rattle.plane.specs.Plane.{PlanePoint, In}
+use Rattle.covering.specs.Covering.{Edge, IsOn}
+use Rattle.outline_slab.proofs.Crossings.{side_octilinear}
 use Rattle.outline_slab.proofs.rows.row_of.Goals as goal
 
 pub returns-clause-row : goal.returns-clause-row
@@ -16,4 +18,8 @@ returns-clause-row c =
       top_finish = omega (arith, ints);
       bottom_start = omega (arith, ints);
       bottom_finish = omega (arith, ints);
+      hull = subst (λ (e : Edge). (p : PlanePoint) → In c.hull.result p ↔ IsOn e p) c.side_at-side.ensures.edge c.hull.ensures;
     }
+
+pub hull-requires-clause-octilinear : goal.hull-requires-clause-octilinear
+hull-requires-clause-octilinear c = side_octilinear c.args.corners.now c.args.i _ c.requires.sides c.requires.within c.side_at-side.ensures.edge
