@@ -1,0 +1,5 @@
+pub mod Rules
+pub mod Side
+pub mod Faults
+pub mod Search
+pub mod Places
