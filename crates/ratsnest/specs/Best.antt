@@ -23,11 +23,13 @@ pub record IsOffer (xs : List Anchor) (D : ℕ → Type 0) (o : Offer) : Type 0 
   pub touches : Touches xs D o.outside o.best
   pub least : (f : Pair) → Touches xs D o.outside f → IsLess xs f o.best → ⊥
 
+-- what the calls need of an offer: its numbers are there, and its length is the squared distance
 pub record IsSound (xs : List Anchor) (o : Offer) : Type 0 where
   pub there : o.outside < length xs
   pub is : IsPair xs o.best
   pub measured : pos o.length ≡ dist_sq xs o.best
 
+-- m is an anchor other than k
 pub record MayMeet (xs : List Anchor) (k m : ℕ) : Type 0 where
   pub there : m < length xs
   pub other : m ≡ k → ⊥
@@ -46,13 +48,16 @@ pub record IsImproved (xs : List Anchor) (moved : List ℕ) (o new : Offer) : Ty
   pub sound : IsSound xs new
   pub offer : (inside : List ℕ) → IsOffer xs (λ j. IsOneOf j inside) o → IsOffer xs (λ j. IsOneOf j inside ⊎ IsOneOf j moved) new
 
+-- the anchors outside, by their numbers
 abbrev pub numbers : List Offer → List ℕ
 numbers left = map (λ o. o.outside) left
 
+-- the moved ones are those of the anchors outside that are in cluster c
 pub record IsEntering (xs : List Anchor) (c : ℕ) (left : List Offer) (moved : List ℕ) : Type 0 where
   pub these : All (λ m. (m < length xs) × ((anchor xs m).cluster ≡ c)) moved
   pub whole : (k : ℕ) → IsOneOf k (numbers left) → (anchor xs k).cluster ≡ c → IsOneOf k moved
 
+-- the rest has the offers of all others, where the moved ones are inside too
 pub record IsRest (xs : List Anchor) (c : ℕ) (moved : List ℕ) (left rest : List Offer) : Type 0 where
   pub offers : (inside : List ℕ) → All (λ o. IsOffer xs (λ j. IsOneOf j inside) o) left
       → All (λ o. IsOffer xs (λ j. IsOneOf j inside ⊎ IsOneOf j moved) o) rest
@@ -67,16 +72,18 @@ pub record IsRing (xs : List Anchor) (inside : List ℕ) (left : List Offer) : T
   pub offers : All (λ o. IsOffer xs (λ j. IsOneOf j inside) o) left
   pub whole : (k : ℕ) → k < length xs → (IsOneOf k inside → ⊥) → IsOneOf k (numbers left)
 
--- with the anchors of the cluster inside too
+-- where inside were the old ones, more has those of cluster c too, and no others
 pub record IsJoinedBy (xs : List Anchor) (c : ℕ) (inside more : List ℕ) : Type 0 where
   pub old : (k : ℕ) → IsOneOf k inside → IsOneOf k more
   pub new : (k : ℕ) → IsOneOf k more → IsOneOf k inside ⊎ ((anchor xs k).cluster ≡ c)
   pub whole : (k : ℕ) → k < length xs → (anchor xs k).cluster ≡ c → IsOneOf k more
 
+-- once cluster c is joined, offers of all anchors outside are offers of all anchors outside again
 pub record IsAbsorbed (xs : List Anchor) (c : ℕ) (left rest : List Offer) : Type 0 where
   pub ring : (inside : List ℕ) → IsRing xs inside left → (more : List ℕ) × IsJoinedBy xs c inside more × IsRing xs more rest
   pub fewer : (k : ℕ) → IsOneOf k (numbers left) → (anchor xs k).cluster ≡ c → length rest < length left
 
+-- one of the offers, and none has a lesser key
 pub record IsNearest (xs : List Anchor) (left : List Offer) (o : Offer) : Type 0 where
   pub at : ℕ
   pub there : at < length left

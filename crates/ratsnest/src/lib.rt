@@ -35,7 +35,8 @@ pub struct Pair {
 }
 
 /// The ratsnest in joining order: it starts with the cluster of the first anchor, and takes each time the pair of least
-/// key that leaves the joined clusters. Refuses for want of memory alone.
+/// key that leaves the joined clusters. A pair's key is the squared distance of its anchors, then its lesser number, then
+/// its greater. Time is quadratic in the anchors and memory linear. Refuses for want of memory alone.
 pub fn tree(alloc: Global, anchors: &[Anchor]) -> Result<Vec<Pair>, Memory>
     requires near { All IsNearby anchors.now }
     requires count { length anchors.now < 2 ^ 32 }
