@@ -3,3 +3,4 @@ pub mod OneZone
 pub mod Owes
 pub mod OneDue
 pub mod EndsOf
+pub mod NoWords

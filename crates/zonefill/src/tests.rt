@@ -3,7 +3,7 @@ ghost use Rattle.std.specs.List.Sorted.{IsStrictlyIncreasing};
 
 use super::*;
 use crate::ended::{Role, UsageFault};
-use desk::MemoryDesk;
+use desk::{MemoryDesk, NeverFails};
 use sexpr_text::{TextFault, TextKind};
 use std::alloc::AllocError;
 use std::test::Fail;
@@ -210,6 +210,18 @@ fn reads_words(rt: HostRuntime) -> Result<(), Fail> {
     let ended = run_words(rt.alloc(), &mut desk, &["fill", "-", "b"])?;
     assert!(rt; ended == Ended::Unreadable { role: Role::In });
     assert!(rt; desk.complained() == b"zonefill: IN can't be read\n".as_slice());
+    Ok(())
+}
+
+/// A run without words over a desk that never fails: its room is enough for the complaint, and no file is due.
+#[test]
+fn wants_words_over_a_reserved_desk(rt: HostRuntime) -> Result<(), Fail> {
+    let alloc = rt.alloc();
+    let words = Vec::new(alloc);
+    let mut desk = NeverFails::new(alloc, 7, 256)?;
+    let ended = run_counted::<NeverFails, Brand>(alloc, &words, &mut desk, Blank::new(1));
+    assert!(rt; ended == Ended::Usage(UsageFault::Words));
+    assert!(rt; desk.complained() == USAGE);
     Ok(())
 }
 
