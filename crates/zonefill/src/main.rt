@@ -14,10 +14,15 @@ mod words;
 
 ghost use Rattle.std.specs.Prelude.{◌≡◌, ◌<◌, map};
 ghost use Rattle.std.specs.String.{string_bytes};
+ghost use Rattle.std.specs.IoError.{error_kind};
+ghost use Rattle.std.specs.declared.io.ErrorKind.TheVariants.{OutOfMemory};
 ghost use Rattle.zonefill.specs.Leaves.{HasRoomFor};
+ghost use Rattle.zonefill.specs.declared.ended.Ended.TheVariants.{Usage, Memory};
+ghost use Rattle.zonefill.specs.declared.ended.UsageFault.TheVariants.{Words};
 
+use complaint::complaint;
 use desk::{Desk, RealDesk};
-use ended::{Ended, status};
+use ended::{Ended, UsageFault, status};
 use run::run_single;
 use std::alloc::Global;
 use std::marker::Brand;
@@ -26,6 +31,7 @@ use std::rt::Env;
 use std::sync::ledger::{Blank, Ledger};
 use std::{env, io};
 use step_count::Steps;
+use whole_files::complain_all;
 
 /// The words behind the program's name.
 fn words_given<R: Env + AllocGlobal>(rt: &R) -> io::Result<Vec<String>> {
@@ -54,11 +60,28 @@ fn run_counted<D: Desk, L: Ledger>(
     run_single(alloc, words, desk, &mut steps)
 }
 
+/// How a run ends whose words can't be had: there is no memory for them, or one isn't UTF-8 and so is no word of a command.
+fn without_words(error: &io::Error) -> Ended
+    ensures memory { error_kind error.now ≡ OutOfMemory → result ≡ Memory }
+    ensures usage { (error_kind error.now ≡ OutOfMemory → ⊥) → result ≡ Usage Words }
+{
+    if error.kind() == io::ErrorKind::OutOfMemory {
+        Ended::Memory
+    } else {
+        Ended::Usage(UsageFault::Words)
+    }
+}
+
 fn main(rt: HostRuntime) -> ExitCode {
-    let Ok(words) = words_given(&rt) else {
-        return ExitCode::from(status(&Ended::Memory));
-    };
     let mut desk = RealDesk::new(&rt);
+    let words = match words_given(&rt) {
+        Ok(words) => words,
+        Err(error) => {
+            let ended = without_words(&error);
+            complain_all(complaint(&ended).as_slice(), &mut desk);
+            return ExitCode::from(status(&ended));
+        }
+    };
     let ended = run_counted::<RealDesk<HostRuntime>, Brand>(
         rt.alloc(),
         &words,
