@@ -1,10 +1,10 @@
 #!/usr/bin/env python3
 """Times the built program on large texts, and prints speed and peak memory. It never fails the gate.
 
-    rt run is not needed: build the program once by `rt run` in crates/zonefill, then `python3 bench/run.py`.
+Build the program first, by `rt run` in crates/zonefill; then `python3 bench/run.py`.
 
-Two texts of 64 MiB: a board of one zone padded with spaces, which is filled and copied through, and a list of empty lists,
-which is read and then answered "not built yet". For comparison `cat` copies the same bytes.
+Three texts of 64 MiB: a board of one zone padded with spaces, which is filled and copied through; a list of empty lists; and a
+list of words and strings. The last two are read and then answered "not built yet". For comparison `cat` copies the same bytes.
 """
 import os
 import subprocess
@@ -37,7 +37,7 @@ def lists():
 
 
 def words():
-    """A board whose padding is short words and strings, all of them passed over."""
+    """A root with as many short lists of words and strings as fit."""
     item = b'(net_tie "a b" 12.5 x)\n'
     front, end = b"(kicad_pcb ", b")\n"
     return front + item * ((MOST - len(front) - len(end)) // len(item)) + end
