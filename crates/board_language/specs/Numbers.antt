@@ -1,0 +1,134 @@
+-- The numbers of a board: what a text spells, what is wrong with one that spells none, and which texts are wanted.
+use Rattle.std.specs.Prelude.{ℕ, ◌+◌, ◌-◌, ◌^◌, ◌/◌, ◌%◌, Bool, true, false, not, ◌&&◌, ◌||◌, ◌==◌, nat_lt, nat_le, if◌then◌else◌, List, [], ◌∷◌, ◌++◌, length, take, drop, zip, slice_index_or, slice_get, Option, None, Some, ℤ, pos, option_and_then}
+use Rattle.std.specs.List.{list_all}
+use Rattle.std.specs.Char.{is_ascii_digit}
+use Rattle.std.specs.Option.{option_or}
+use Rattle.grid_num.specs.Spelling.{number}
+use Rattle.grid_num.specs.Length.{nanometres, with_sign}
+use Rattle.grid_num.specs.Parts.{begins_with, whole_of, fraction_of}
+use Rattle.grid_num.specs.declared.read.NumFault.{NumFault}
+use Rattle.grid_num.specs.declared.read.NumFault.TheVariants.{NotANumber, TooFine, OutOfRange}
+use Rattle.sexpr_text.specs.Items.{Item}
+use Rattle.board_fields.specs.Values.{behind_head}
+use Rattle.board_language.specs.Fields.{list_of, text_of, text_at}
+
+abbrev pub are_zeros : List ℕ → Bool
+are_zeros digits = list_all (λ digit. digit == 48) digits
+
+-- a decimal: an optional sign, digits, and an optional point with digits; at least one digit stands somewhere
+abbrev pub is_decimal : List ℕ → Bool
+is_decimal text = list_all is_ascii_digit (fraction_of text) && not (length (whole_of text) + length (fraction_of text) == 0)
+
+abbrev pub is_negative : List ℕ → Bool
+is_negative text = begins_with text 45
+
+abbrev pub is_zero : List ℕ → Bool
+is_zero text = is_decimal text && (are_zeros (whole_of text) && are_zeros (fraction_of text))
+
+-- ---- lengths: millimetres, read as nanometres
+
+unfoldable pub length_of : List ℕ → ℤ
+length_of text = with_sign (is_negative text) (nanometres (whole_of text) (fraction_of text))
+
+unfoldable pub length_fault : List ℕ → Option NumFault
+length_fault text =
+    if not (is_decimal text) then Some NotANumber
+    else (if not (are_zeros (drop 6 (fraction_of text))) then Some TooFine
+    else (if nat_lt 500000000 (nanometres (whole_of text) (fraction_of text)) then Some OutOfRange else None))
+
+-- ---- whole numbers: one or more digits, below 2 ^ 32
+
+unfoldable pub whole_number : List ℕ → ℕ
+whole_number text = number text
+
+unfoldable pub whole_fault : List ℕ → Option NumFault
+whole_fault text =
+    if not (list_all is_ascii_digit text) || (length text == 0) then Some NotANumber
+    else (if nat_lt (number text) (2 ^ 32) then None else Some OutOfRange)
+
+-- ---- ratios: decimals in ten-thousand-millionths; places past the tenth are dropped
+
+abbrev pub ten_places : List ℕ → List ℕ
+ten_places fraction = take 10 (fraction ++ (48 ∷ 48 ∷ 48 ∷ 48 ∷ 48 ∷ 48 ∷ 48 ∷ 48 ∷ 48 ∷ 48 ∷ []))
+
+unfoldable pub ratio_of : List ℕ → ℤ
+ratio_of text = with_sign (is_negative text) (number (whole_of text ++ ten_places (fraction_of text)))
+
+unfoldable pub ratio_fault : List ℕ → Option NumFault
+ratio_fault text = if is_decimal text then None else Some NotANumber
+
+-- ---- angles: degrees, with at most six decimal places, from -360 to 360
+
+-- a turn by n quarters to the left, or to the right where the angle is negative, as one of the four to the left
+abbrev pub turned : Bool → ℕ → ℕ
+turned false n = n % 4
+turned true n = (4 - n % 4) % 4
+
+-- how many quarter turns the text spells; none where it spells no multiple of 90 degrees
+unfoldable pub quarter_turns : List ℕ → Option ℕ
+quarter_turns text =
+    if is_decimal text && (nat_le (length (fraction_of text)) 6 && (are_zeros (fraction_of text) && (nat_le (number (whole_of text)) 360 && (number (whole_of text) % 90 == 0))))
+    then Some (turned (is_negative text) (number (whole_of text) / 90)) else None
+
+-- ---- numbers at their places
+
+pub data Form : Type 0 where
+  Length : Form
+  Whole : Form
+  Ratio : Form
+
+abbrev pub fault_of : Form → List ℕ → Option NumFault
+fault_of Length text = length_fault text
+fault_of Whole text = whole_fault text
+fault_of Ratio text = ratio_fault text
+
+-- an item from which a number of this form is wanted
+pub record Wanted : Type 0 where
+  pub item : Item
+  pub form : Form
+
+abbrev pub fault_by : Form → Option (List ℕ) → Option NumFault
+fault_by form None = Some NotANumber
+fault_by form (Some text) = fault_of form text
+
+-- what is wrong with it: a list spells no number
+abbrev pub wanted_fault : List ℕ → Wanted → Option NumFault
+wanted_fault bytes w = fault_by w.form (text_of bytes w.item)
+
+-- of several the first one that can't be read counts
+unfoldable pub first_fault : List ℕ → List Wanted → Option NumFault
+first_fault bytes [] = None
+first_fault bytes (w ∷ ws) = option_or (wanted_fault bytes w) (first_fault bytes ws)
+
+-- numbers of these forms are wanted from these items, one by one, as far as there are items
+unfoldable pub wanted_each : List Form → List Item → List Wanted
+wanted_each [] items = []
+wanted_each (form ∷ forms) [] = []
+wanted_each (form ∷ forms) (item ∷ items) = record { item = item; form = form } ∷ wanted_each forms items
+
+abbrev pub wanted_behind : List Form → Option Item → List Wanted
+wanted_behind forms None = []
+wanted_behind forms (Some list) = wanted_each forms (behind_head list)
+
+-- behind the head of a list that may be absent, as many numbers as stated are wanted, and fewer items stand there
+abbrev pub is_short : ℕ → Option Item → Bool
+is_short n None = false
+is_short n (Some list) = nat_lt (length (behind_head list)) n
+
+-- a point: two lengths
+abbrev pub point_forms : List Form
+point_forms = Length ∷ Length ∷ []
+
+-- ---- the numbers that are read
+
+abbrev pub read_or : {X : Type 0} → (List ℕ → X) → X → Option (List ℕ) → X
+read_or read absent None = absent
+read_or read absent (Some text) = read text
+
+-- the value that is spelt at a place of a list, by its reading; where the list is absent, what stands for it
+abbrev pub value_at : {X : Type 0} → (List ℕ → X) → List ℕ → ℕ → X → Option Item → X
+value_at read bytes place absent None = absent
+value_at read bytes place absent (Some list) = read_or read absent (text_at bytes place list)
+
+abbrev pub length_at : List ℕ → ℕ → Option Item → ℤ
+length_at bytes place list = value_at length_of bytes place (pos 0) list

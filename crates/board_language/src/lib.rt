@@ -1,0 +1,32 @@
+//! The language of boards: what is read of each list of a `.kicad_pcb` file, and what offends in it.
+//! The layer above uses the definitions of `specs/`: the board of a text's tree, and its first offence. Nothing here runs.
+//! Lengths are nanometres, lengths of shapes are halves of a nanometre, places are numbers of bytes.
+#![tactic(auto)]
+
+mod offence;
+
+pub use offence::OffenceKind;
+
+/// What a pad is.
+#[derive(Clone, Copy, PartialEq, Eq, Debug)]
+pub enum PadKind {
+    /// `thru_hole`: copper on its layers and in its hole.
+    Plated,
+    /// `smd` or `connect`: copper on its layers alone.
+    Surface,
+    /// `np_thru_hole`: a bare hole, which copper of every layer keeps clear of.
+    Hole,
+}
+
+/// How a pad is joined to a zone of its net.
+#[derive(Clone, Copy, PartialEq, Eq, Debug)]
+pub enum Join {
+    /// By four spokes across a gap.
+    Thermal,
+    /// By copper all round.
+    Solid,
+    /// Not at all: the zone keeps clear of it.
+    Apart,
+    /// By spokes where the pad is plated, and by copper all round where it is not.
+    PlatedThermal,
+}
