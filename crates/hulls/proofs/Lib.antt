@@ -1,0 +1,5 @@
+pub mod Rounding
+pub mod Around
+pub mod InCells
+pub mod Means
+pub mod Grown
