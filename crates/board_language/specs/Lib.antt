@@ -2,3 +2,12 @@ pub mod Fields
 pub mod Numbers
 pub mod Layers
 pub mod Things
+pub mod Board
+pub mod Items
+pub mod Tracks
+pub mod Pads
+pub mod Zones
+pub mod Edges
+pub mod Counts
+pub mod Offences
+pub mod Reading

@@ -25,10 +25,12 @@ is_negative text = begins_with text 45
 abbrev pub is_zero : List ℕ → Bool
 is_zero text = is_decimal text && (are_zeros (whole_of text) && are_zeros (fraction_of text))
 
--- ---- lengths: millimetres, read as nanometres
+-- A text that spells no number counts as 0: the board is refused then, whatever the rest says.
+abbrev pub or_zero : {X : Type 0} → X → X → Option NumFault → X
+or_zero value zero None = value
+or_zero value zero (Some fault) = zero
 
-unfoldable pub length_of : List ℕ → ℤ
-length_of text = with_sign (is_negative text) (nanometres (whole_of text) (fraction_of text))
+-- ---- lengths: millimetres, read as nanometres
 
 unfoldable pub length_fault : List ℕ → Option NumFault
 length_fault text =
@@ -36,26 +38,29 @@ length_fault text =
     else (if not (are_zeros (drop 6 (fraction_of text))) then Some TooFine
     else (if nat_lt 500000000 (nanometres (whole_of text) (fraction_of text)) then Some OutOfRange else None))
 
--- ---- whole numbers: one or more digits, below 2 ^ 32
+unfoldable pub length_of : List ℕ → ℤ
+length_of text = or_zero (with_sign (is_negative text) (nanometres (whole_of text) (fraction_of text))) (pos 0) (length_fault text)
 
-unfoldable pub whole_number : List ℕ → ℕ
-whole_number text = number text
+-- ---- whole numbers: one or more digits, below 2 ^ 32
 
 unfoldable pub whole_fault : List ℕ → Option NumFault
 whole_fault text =
     if not (list_all is_ascii_digit text) || (length text == 0) then Some NotANumber
     else (if nat_lt (number text) (2 ^ 32) then None else Some OutOfRange)
 
+unfoldable pub whole_number : List ℕ → ℕ
+whole_number text = or_zero (number text) 0 (whole_fault text)
+
 -- ---- ratios: decimals in ten-thousand-millionths; places past the tenth are dropped
 
 abbrev pub ten_places : List ℕ → List ℕ
 ten_places fraction = take 10 (fraction ++ (48 ∷ 48 ∷ 48 ∷ 48 ∷ 48 ∷ 48 ∷ 48 ∷ 48 ∷ 48 ∷ 48 ∷ []))
 
-unfoldable pub ratio_of : List ℕ → ℤ
-ratio_of text = with_sign (is_negative text) (number (whole_of text ++ ten_places (fraction_of text)))
-
 unfoldable pub ratio_fault : List ℕ → Option NumFault
 ratio_fault text = if is_decimal text then None else Some NotANumber
+
+unfoldable pub ratio_of : List ℕ → ℤ
+ratio_of text = or_zero (with_sign (is_negative text) (number (whole_of text ++ ten_places (fraction_of text)))) (pos 0) (ratio_fault text)
 
 -- ---- angles: degrees, with at most six decimal places, from -360 to 360
 

@@ -1,0 +1,38 @@
+-- How large a board may be: how much of its most an item takes.
+use Rattle.std.specs.Prelude.{◌≡◌, ℕ, ◌+◌, ◌<◌, ◌≤◌, ◌⊎◌, cond, List, length, sum_by}
+use Rattle.sexpr_text.specs.Items.{Item}
+use Rattle.board_language.specs.Things.{Placed, Thing, Net, Track, Via, RuleArea, Zone, Drawing, Pad, thing_of}
+use Rattle.board_language.specs.Items.{Context}
+use Rattle.board_language.specs.Pads.{is_read_pad}
+use Rattle.board_language.specs.Zones.{is_read_zone, is_read_area}
+use Rattle.board_language.specs.Edges.{edges_of}
+
+-- nets, tracks, vias, read pads, pieces of the edge and read copper zones are counted together
+abbrev pub things_as : Context → Item → Thing → ℕ
+things_as c item Net = 1
+things_as c item Track = 1
+things_as c item Via = 1
+things_as c item (Pad footprint) = cond (is_read_pad c item) 1 0
+things_as c item Zone = cond (is_read_zone c item) 1 0
+things_as c item Drawing = length (edges_of c.bytes item)
+things_as c item other = 0
+
+unfoldable pub things_of : Context → Placed → ℕ
+things_of c p = things_as c p.item (thing_of c.bytes p)
+
+-- read copper zones and read rule areas are counted together
+abbrev pub outlines_as : Context → Item → Thing → ℕ
+outlines_as c item Zone = cond (is_read_zone c item) 1 0
+outlines_as c item RuleArea = cond (is_read_area c item) 1 0
+outlines_as c item other = 0
+
+unfoldable pub outlines_of : Context → Placed → ℕ
+outlines_of c p = outlines_as c p.item (thing_of c.bytes p)
+
+-- the item is the first with which the most is passed
+abbrev pub IsFirstOver : ℕ → (Placed → ℕ) → List Placed → Placed → Type 0
+IsFirstOver most count before p = (sum_by count before ≤ most) × (most < sum_by count before + count p)
+
+-- it is the first with which there are too many things, or too many outlines
+unfoldable pub IsOneTooMany : Context → List Placed → Placed → Type 0
+IsOneTooMany c before p = IsFirstOver 200000 (things_of c) before p ⊎ IsFirstOver 2000 (outlines_of c) before p

@@ -1,0 +1,59 @@
+-- What is read of tracks and vias.
+--
+--     (segment (start 0 0) (end 5 0) (width 0.25) (layer "F.Cu") (net 1) (tstamp ..))
+--     (via (at 5 0) (size 0.6) (drill 0.3) (layers "F.Cu" "B.Cu") (net 1) (tstamp ..))
+use Rattle.std.specs.Prelude.{ℕ, List, [], ◌∷◌, ◌++◌, codes, slice_get, unwrap_or}
+use Rattle.sexpr_text.specs.Items.{Item}
+use Rattle.board_language.specs.Fields.{list_of}
+use Rattle.board_language.specs.Numbers.{Wanted}
+use Rattle.board_language.specs.Layers.{Name, names_of, layer_number, layers_between}
+use Rattle.board_language.specs.Board.{Track, Via}
+use Rattle.board_language.specs.Items.{Context, line_of, span_of, size_of, length_in, point_in, net_of, wanted_point, wanted_length, wanted_whole}
+
+-- the names in the list with this head; of a track's `layer` the first counts, of a via's `layers` the first two
+abbrev pub layer_names : List ℕ → List ℕ → Item → List Name
+layer_names bytes name item = names_of bytes (list_of bytes name item)
+
+abbrev pub name_at : ℕ → List Name → Name
+name_at place names = unwrap_or (slice_get names place) []
+
+abbrev pub track_layer : List ℕ → Item → Name
+track_layer bytes item = name_at 0 (layer_names bytes (codes "layer") item)
+
+unfoldable pub track_of : Context → Item → Track
+track_of c item =
+    record {
+      from = point_in c.bytes (codes "start") item;
+      to = point_in c.bytes (codes "end") item;
+      width = size_of (length_in c.bytes (codes "width") item);
+      layer = layer_number c.copper (track_layer c.bytes item);
+      net = net_of c.bytes item;
+      span = span_of item;
+      line = line_of c.bytes item.from;
+    }
+
+-- the numbers that a track needs, in the order in which they are read
+unfoldable pub track_numbers : List ℕ → Item → List Wanted
+track_numbers bytes item =
+    wanted_point bytes (codes "start") item
+    ++ (wanted_point bytes (codes "end") item
+    ++ (wanted_length bytes (codes "width") item ++ wanted_whole bytes (codes "net") item))
+
+abbrev pub via_layer : List ℕ → ℕ → Item → Name
+via_layer bytes place item = name_at place (layer_names bytes (codes "layers") item)
+
+-- a via has copper on all layers from the one that it names to the other, in the board's order
+unfoldable pub via_of : Context → Item → Via
+via_of c item =
+    record {
+      at = point_in c.bytes (codes "at") item;
+      size = size_of (length_in c.bytes (codes "size") item);
+      layers = layers_between c.copper (via_layer c.bytes 0 item) (via_layer c.bytes 1 item);
+      net = net_of c.bytes item;
+      span = span_of item;
+      line = line_of c.bytes item.from;
+    }
+
+unfoldable pub via_numbers : List ℕ → Item → List Wanted
+via_numbers bytes item =
+    wanted_point bytes (codes "at") item ++ (wanted_length bytes (codes "size") item ++ wanted_whole bytes (codes "net") item)

@@ -1,0 +1,176 @@
+-- What is read of zones and rule areas.
+--
+--     (zone (net 1) (net_name "GND") (layer "F.Cu") (tstamp ..) (hatch edge 0.5) (priority 2)
+--       (connect_pads thru_hole_only (clearance 0.2))
+--       (min_thickness 0.25)
+--       (fill yes (thermal_gap 0.5) (thermal_bridge_width 0.5) (island_removal_mode 1))
+--       (polygon (pts (xy 0 0) (xy 10 0) (xy 10 10) (xy 0 10)))
+--       (filled_polygon (layer "F.Cu") (pts ..)))
+--
+-- A `zone` with a `keepout` is a rule area, of which the layers and the outline are read.
+use Rattle.std.specs.Prelude.{ℕ, Bool, true, false, not, ◌&&◌, ◌||◌, ◌==◌, if◌then◌else◌, List, [], ◌∷◌, ◌++◌, map, filter, filter_map, flat_map, find, codes, unwrap_or, Option, None, Some, ℤ, pos, option_map, option_and_then}
+use Rattle.std.specs.Option.{option_or}
+use Rattle.std.specs.Str.{bytes_eq}
+use Rattle.std.specs.Int.{int_div_euclid}
+use Rattle.grid_num.specs.declared.Point.{Point}
+use Rattle.sexpr_text.specs.Items.{Item, is_headed}
+use Rattle.sexpr_text.specs.declared.Span.{Span}
+use Rattle.board_fields.specs.Lists.{lists_of, headed}
+use Rattle.board_language.specs.declared.Join.{Join}
+use Rattle.board_language.specs.declared.Join.TheVariants.{Thermal, Solid, Apart, PlatedThermal}
+use Rattle.board_language.specs.Fields.{list_of, list_in, has_list, says_at, texts_of, passes}
+use Rattle.board_language.specs.Numbers.{Wanted, Form, Length, Whole, wanted_behind, point_forms, value_at, length_of, whole_number}
+use Rattle.board_language.specs.Layers.{has_copper, layer_set}
+use Rattle.board_language.specs.Board.{Zone, Settings, ZoneSpans, Area}
+use Rattle.board_language.specs.Items.{Context, line_of, span_of, tail_of, size_of, point_at, whole_in, net_of, wanted_length, wanted_whole}
+
+-- ---- which are read
+
+-- of a zone's two lists of layers the first counts
+abbrev pub layer_list : List ℕ → Item → Option Item
+layer_list bytes zone = find (λ list. is_headed bytes (codes "layer") list || is_headed bytes (codes "layers") list) (lists_of zone)
+
+-- a zone without a copper layer isn't read
+abbrev pub is_read_zone : Context → Item → Bool
+is_read_zone c zone = has_copper c.bytes c.copper (layer_list c.bytes zone)
+
+-- nor is a rule area that allows copper pour
+abbrev pub keeps_copper_out : List ℕ → Item → Bool
+keeps_copper_out bytes zone = passes (says_at bytes 0 (codes "not_allowed")) (list_in bytes (codes "keepout") (codes "copperpour") zone)
+
+abbrev pub is_read_area : Context → Item → Bool
+is_read_area c zone = keeps_copper_out c.bytes zone && is_read_zone c zone
+
+-- ---- the outline
+
+abbrev pub points_list : List ℕ → Item → Option Item
+points_list bytes zone = list_in bytes (codes "polygon") (codes "pts") zone
+
+-- the lists among the points; words and strings among them are passed over
+abbrev pub lists_in : Option Item → List Item
+lists_in None = []
+lists_in (Some list) = lists_of list
+
+abbrev pub corner_lists : List ℕ → Item → List Item
+corner_lists bytes zone = lists_in (points_list bytes zone)
+
+-- the corners in nanometres, in their order
+unfoldable pub corners_of : List ℕ → Item → List Point
+corners_of bytes zone = map (λ list. point_at bytes (Some list)) (corner_lists bytes zone)
+
+-- nanometres in units of 2 nm
+abbrev pub in_units : Point → Point
+in_units p = record { x = int_div_euclid p.x (pos 2); y = int_div_euclid p.y (pos 2) }
+
+abbrev pub outline_of : List ℕ → Item → List Point
+outline_of bytes zone = map in_units (corners_of bytes zone)
+
+-- ---- settings
+
+-- a list in the list with the first head, read as a length; where it is absent, what stands for it
+abbrev pub length_or : ℤ → List ℕ → Option Item → ℤ
+length_or absent bytes list = value_at length_of bytes 0 absent list
+
+abbrev pub clearance_list : List ℕ → Item → Option Item
+clearance_list bytes zone = list_in bytes (codes "connect_pads") (codes "clearance") zone
+
+abbrev pub gap_list : List ℕ → Item → Option Item
+gap_list bytes zone = list_in bytes (codes "fill") (codes "thermal_gap") zone
+
+abbrev pub bridge_list : List ℕ → Item → Option Item
+bridge_list bytes zone = list_in bytes (codes "fill") (codes "thermal_bridge_width") zone
+
+abbrev pub mode_list : List ℕ → Item → Option Item
+mode_list bytes zone = list_in bytes (codes "fill") (codes "island_removal_mode") zone
+
+abbrev pub clearance_in : List ℕ → Item → ℤ
+clearance_in bytes zone = length_or (pos 0) bytes (clearance_list bytes zone)
+
+abbrev pub thickness_in : List ℕ → Item → ℤ
+thickness_in bytes zone = length_or (pos 250000) bytes (list_of bytes (codes "min_thickness") zone)
+
+abbrev pub gap_in : List ℕ → Item → ℤ
+gap_in bytes zone = length_or (pos 500000) bytes (gap_list bytes zone)
+
+abbrev pub bridge_in : List ℕ → Item → ℤ
+bridge_in bytes zone = length_or (pos 500000) bytes (bridge_list bytes zone)
+
+-- how islands are removed: 0 always, 1 never, 2 below an area
+abbrev pub mode_in : List ℕ → Item → ℕ
+mode_in bytes zone = value_at whole_number bytes 0 0 (mode_list bytes zone)
+
+-- the words of `connect_pads` that say how pads are joined
+abbrev pub join_by_word : List ℕ → Option Join
+join_by_word text =
+    if bytes_eq text (codes "yes") || bytes_eq text (codes "full") then Some Solid
+    else (if bytes_eq text (codes "no") then Some Apart else (if bytes_eq text (codes "thru_hole_only") then Some PlatedThermal else None))
+
+-- the first of them counts
+abbrev pub first_join : List (List ℕ) → Join
+first_join [] = Thermal
+first_join (text ∷ texts) = unwrap_or (join_by_word text) (first_join texts)
+
+abbrev pub join_in : List ℕ → Option Item → Join
+join_in bytes None = Thermal
+join_in bytes (Some connect) = first_join (texts_of bytes connect)
+
+unfoldable pub settings_of : Context → Item → Settings
+settings_of c zone =
+    record {
+      outline = outline_of c.bytes zone;
+      layers = layer_set c.bytes c.copper (layer_list c.bytes zone);
+      net = net_of c.bytes zone;
+      priority = whole_in c.bytes (codes "priority") zone;
+      join = join_in c.bytes (list_of c.bytes (codes "connect_pads") zone);
+      clearance = size_of (clearance_in c.bytes zone);
+      thickness = size_of (thickness_in c.bytes zone);
+      gap = size_of (gap_in c.bytes zone);
+      bridge = size_of (bridge_in c.bytes zone);
+      keep_islands = mode_in c.bytes zone == 1;
+    }
+
+-- ---- places
+
+abbrev pub span_or_none : Option Item → Option Span
+span_or_none list = option_map span_of list
+
+-- a fill that was written before
+abbrev pub is_fill : List ℕ → Item → Bool
+is_fill bytes list = is_headed bytes (codes "filled_polygon") list || is_headed bytes (codes "fill_segments") list
+
+unfoldable pub spans_of : List ℕ → Item → ZoneSpans
+spans_of bytes zone =
+    record {
+      priority = span_or_none (list_of bytes (codes "priority") zone);
+      connect = span_or_none (list_of bytes (codes "connect_pads") zone);
+      clearance = span_or_none (clearance_list bytes zone);
+      tail = tail_of bytes zone;
+      fills = map span_of (filter (is_fill bytes) (lists_of zone));
+    }
+
+unfoldable pub zone_of : Context → Item → Zone
+zone_of c zone =
+    record {
+      settings = settings_of c zone;
+      spans = spans_of c.bytes zone;
+      span = span_of zone;
+      line = line_of c.bytes zone.from;
+    }
+
+unfoldable pub area_of : Context → Item → Area
+area_of c zone = record { outline = outline_of c.bytes zone; layers = layer_set c.bytes c.copper (layer_list c.bytes zone) }
+
+-- ---- the numbers that are needed, in the order in which they are read
+
+unfoldable pub corner_numbers : List ℕ → Item → List Wanted
+corner_numbers bytes zone = flat_map (λ list. wanted_behind point_forms (Some list)) (corner_lists bytes zone)
+
+unfoldable pub zone_numbers : List ℕ → Item → List Wanted
+zone_numbers bytes zone =
+    wanted_whole bytes (codes "net") zone
+    ++ (wanted_whole bytes (codes "priority") zone
+    ++ (wanted_behind (Length ∷ []) (clearance_list bytes zone)
+    ++ (wanted_length bytes (codes "min_thickness") zone
+    ++ (wanted_behind (Length ∷ []) (gap_list bytes zone)
+    ++ (wanted_behind (Length ∷ []) (bridge_list bytes zone)
+    ++ (wanted_behind (Whole ∷ []) (mode_list bytes zone) ++ corner_numbers bytes zone))))))
