@@ -4,16 +4,17 @@
 --     (gr_rect (start 0 0) (end 10 5) (layer "Edge.Cuts"))
 --     (gr_arc (start 0 2) (mid 0.6 0.6) (end 2 0) (layer "Edge.Cuts"))
 --     (gr_poly (pts (xy 0 0) (xy 10 0) (xy 10 5)) (layer "Edge.Cuts"))
-use Rattle.std.specs.Prelude.{ℕ, Bool, true, false, not, ◌&&◌, ◌||◌, int_lt, if◌then◌else◌, List, [], ◌∷◌, ◌++◌, map, flat_map, length, codes, Option, None, Some, ℤ, pos, ◌+ℤ◌, ◌-ℤ◌, ◌*ℤ◌}
+use Rattle.std.specs.Prelude.{ℕ, Bool, true, false, not, ◌&&◌, ◌||◌, int_lt, if◌then◌else◌, List, [], ◌∷◌, ◌++◌, map, flat_map, length, codes, is_some, Option, None, Some, ℤ, pos, ◌+ℤ◌, ◌-ℤ◌, ◌*ℤ◌}
 use Rattle.std.specs.List.{list_any}
 use Rattle.grid_num.specs.declared.Point.{Point}
+use Rattle.grid_num.specs.declared.read.NumFault.{NumFault}
 use Rattle.sexpr_text.specs.Items.{Item, is_headed}
 use Rattle.board_fields.specs.Lists.{lists_of}
 use Rattle.board_language.specs.Fields.{list_of, has_list, head_begins}
-use Rattle.board_language.specs.Numbers.{Wanted, wanted_behind, first_fault, is_short, point_forms}
+use Rattle.board_language.specs.Numbers.{first_of, point_fault, is_short}
 use Rattle.board_language.specs.Layers.{is_drawn_on, is_edge_name, is_copper}
 use Rattle.board_language.specs.Board.{Edge}
-use Rattle.board_language.specs.Items.{Context, point_at, point_in, wanted_point}
+use Rattle.board_language.specs.Items.{Context, point_at, point_in}
 use Rattle.board_language.specs.Zones.{lists_in}
 
 -- what kind of edge a drawing is
@@ -99,19 +100,16 @@ lacks_points bytes item =
     polygon_lists Arc = []
     polygon_lists Other = []
 
-abbrev pub numbers_as : Form → List ℕ → Item → List Wanted
-numbers_as Polygon bytes item = flat_map (λ list. wanted_behind point_forms (Some list)) (corner_lists bytes item)
-numbers_as form bytes item = flat_map (λ name. wanted_point bytes name item) (needed_points form)
+abbrev pub fault_as : Form → List ℕ → Item → Option NumFault
+fault_as Polygon bytes item = first_of (map (λ list. point_fault bytes (Some list)) (corner_lists bytes item))
+fault_as form bytes item = first_of (map (λ name. point_fault bytes (list_of bytes name item)) (needed_points form))
 
-unfoldable pub edge_numbers : List ℕ → Item → List Wanted
-edge_numbers bytes item = numbers_as (form_of bytes item) bytes item
+-- the first of an edge's numbers that can't be read
+unfoldable pub edge_fault : List ℕ → Item → Option NumFault
+edge_fault bytes item = fault_as (form_of bytes item) bytes item
 
 abbrev pub is_unread : List ℕ → Item → Bool
-is_unread bytes item = lacks_points bytes item || has_fault (first_fault bytes (edge_numbers bytes item))
-  where
-    has_fault : {X : Type 0} → Option X → Bool
-    has_fault None = false
-    has_fault (Some fault) = true
+is_unread bytes item = lacks_points bytes item || is_some (edge_fault bytes item)
 
 -- an edge that is curved otherwise than in an arc of at most a half circle, or a polygon with other points than `xy`;
 -- the width of an arc is tried where its points are read

@@ -8,7 +8,7 @@ use Rattle.sexpr_text.specs.Items.{Item}
 use Rattle.sexpr_text.specs.declared.Span.{Span}
 use Rattle.board_fields.specs.Lists.{headed}
 use Rattle.board_language.specs.Fields.{list_of, text_at}
-use Rattle.board_language.specs.Numbers.{whole_number, whole_fault, length_at, value_at, Form, Whole, Length, Wanted, wanted_behind, point_forms}
+use Rattle.board_language.specs.Numbers.{whole_number, whole_fault, length_at, value_at}
 
 -- what holds for the whole board: its bytes, its copper layers in their order, and its nets
 pub record Context : Type 0 where
@@ -66,15 +66,6 @@ point_at bytes list = record { x = length_at bytes 0 list; y = length_at bytes 1
 
 abbrev pub point_in : List ℕ → List ℕ → Item → Point
 point_in bytes name item = point_at bytes (list_of bytes name item)
-
-abbrev pub wanted_point : List ℕ → List ℕ → Item → List Wanted
-wanted_point bytes name item = wanted_behind point_forms (list_of bytes name item)
-
-abbrev pub wanted_length : List ℕ → List ℕ → Item → List Wanted
-wanted_length bytes name item = wanted_behind (Length ∷ []) (list_of bytes name item)
-
-abbrev pub wanted_whole : List ℕ → List ℕ → Item → List Wanted
-wanted_whole bytes name item = wanted_behind (Whole ∷ []) (list_of bytes name item)
 
 -- ---- nets
 

@@ -77,52 +77,45 @@ quarter_turns text =
 
 -- ---- numbers at their places
 
-pub data Form : Type 0 where
-  Length : Form
-  Whole : Form
-  Ratio : Form
+-- of several numbers the first that can't be read counts
+abbrev pub first_of : List (Option NumFault) → Option NumFault
+first_of [] = None
+first_of (fault ∷ faults) = option_or fault (first_of faults)
 
-abbrev pub fault_of : Form → List ℕ → Option NumFault
-fault_of Length text = length_fault text
-fault_of Whole text = whole_fault text
-fault_of Ratio text = ratio_fault text
+abbrev pub text_fault : (List ℕ → Option NumFault) → Option (List ℕ) → Option NumFault
+text_fault read None = Some NotANumber
+text_fault read (Some text) = read text
 
--- an item from which a number of this form is wanted
-pub record Wanted : Type 0 where
-  pub item : Item
-  pub form : Form
+-- what is wrong with an item from which a number is wanted, by its reading; a list spells no number
+abbrev pub item_fault : (List ℕ → Option NumFault) → List ℕ → Item → Option NumFault
+item_fault read bytes item = text_fault read (text_of bytes item)
 
-abbrev pub fault_by : Form → Option (List ℕ) → Option NumFault
-fault_by form None = Some NotANumber
-fault_by form (Some text) = fault_of form text
+abbrev pub if_there : (List ℕ → Option NumFault) → List ℕ → Option Item → Option NumFault
+if_there read bytes None = None
+if_there read bytes (Some item) = item_fault read bytes item
 
--- what is wrong with it: a list spells no number
-abbrev pub wanted_fault : List ℕ → Wanted → Option NumFault
-wanted_fault bytes w = fault_by w.form (text_of bytes w.item)
+-- what is wrong with the number at a place behind the head of a list; nothing where no item stands there
+abbrev pub fault_at : (List ℕ → Option NumFault) → List ℕ → ℕ → Option Item → Option NumFault
+fault_at read bytes place None = None
+fault_at read bytes place (Some list) = if_there read bytes (slice_get (behind_head list) place)
 
--- of several the first one that can't be read counts
-unfoldable pub first_fault : List ℕ → List Wanted → Option NumFault
-first_fault bytes [] = None
-first_fault bytes (w ∷ ws) = option_or (wanted_fault bytes w) (first_fault bytes ws)
+abbrev pub length_fault_at : List ℕ → ℕ → Option Item → Option NumFault
+length_fault_at bytes place list = fault_at length_fault bytes place list
 
--- numbers of these forms are wanted from these items, one by one, as far as there are items
-unfoldable pub wanted_each : List Form → List Item → List Wanted
-wanted_each [] items = []
-wanted_each (form ∷ forms) [] = []
-wanted_each (form ∷ forms) (item ∷ items) = record { item = item; form = form } ∷ wanted_each forms items
+abbrev pub whole_fault_at : List ℕ → ℕ → Option Item → Option NumFault
+whole_fault_at bytes place list = fault_at whole_fault bytes place list
 
-abbrev pub wanted_behind : List Form → Option Item → List Wanted
-wanted_behind forms None = []
-wanted_behind forms (Some list) = wanted_each forms (behind_head list)
+abbrev pub ratio_fault_at : List ℕ → ℕ → Option Item → Option NumFault
+ratio_fault_at bytes place list = fault_at ratio_fault bytes place list
+
+-- a point is two lengths
+abbrev pub point_fault : List ℕ → Option Item → Option NumFault
+point_fault bytes list = first_of (length_fault_at bytes 0 list ∷ length_fault_at bytes 1 list ∷ [])
 
 -- behind the head of a list that may be absent, as many numbers as stated are wanted, and fewer items stand there
 abbrev pub is_short : ℕ → Option Item → Bool
 is_short n None = false
 is_short n (Some list) = nat_lt (length (behind_head list)) n
-
--- a point: two lengths
-abbrev pub point_forms : List Form
-point_forms = Length ∷ Length ∷ []
 
 -- ---- the numbers that are read
 

@@ -12,14 +12,14 @@ use Rattle.outline_slab.specs.Faults as outlines
 use Rattle.board_language.specs.declared.offence.OffenceKind.{OffenceKind}
 use Rattle.board_language.specs.declared.offence.OffenceKind.TheVariants as kinds
 use Rattle.board_language.specs.Fields.{list_of, list_in, has_list, head_begins, text_at, says_at, texts_of, passes}
-use Rattle.board_language.specs.Numbers.{Wanted, Form, Whole, is_decimal, is_zero, are_zeros, whole_fault, whole_number, value_at, first_fault, wanted_each, is_short, length_at, turned}
+use Rattle.board_language.specs.Numbers.{is_decimal, is_zero, whole_fault, whole_number, value_at, first_of, if_there, whole_fault_at, is_short, length_at}
 use Rattle.board_language.specs.Layers.{Name, is_among, has_double, is_copper, layers_in, name_of_layer, has_unknown, is_edge_name, is_drawn_on}
 use Rattle.board_language.specs.Things.{Placed, Thing, Board, Layers, Net, Track, CurvedTrack, Via, Footprint, RuleArea, Zone, Drawing, Pad, FootprintDrawing, FootprintZone, Other, thing_of}
 use Rattle.board_language.specs.Items.{Context, size_of, is_no_length, is_no_size, is_bad_length, length_in, whole_in, net_of, declared_net, has_number, is_unknown_net, stamp_in}
-use Rattle.board_language.specs.Tracks.{layer_names, name_at, track_layer, via_layer, track_numbers, via_numbers}
-use Rattle.board_language.specs.Pads.{is_type, is_shape, is_read_pad, has_read_pad, turns_at, drill_of, drill_width, drill_height, ratio_in, bridge_list, pad_fault, footprint_numbers, is_hole}
+use Rattle.board_language.specs.Tracks.{layer_names, name_at, track_layer, via_layer, track_fault, via_fault}
+use Rattle.board_language.specs.Pads.{is_type, is_shape, is_read_pad, has_read_pad, turns_at, drill_of, drill_width, drill_height, ratio_in, bridge_list, pad_fault, footprint_fault, is_hole}
 use Rattle.board_language.specs.Zones as zones
-use Rattle.board_language.specs.Edges.{is_edge, is_on_copper, is_curved, lacks_points, edge_numbers}
+use Rattle.board_language.specs.Edges.{is_edge, is_on_copper, is_curved, lacks_points, edge_fault}
 use Rattle.board_language.specs.Counts.{IsOneTooMany}
 
 -- one of the lists with these heads isn't there
@@ -29,9 +29,6 @@ lacks bytes names item = list_any (λ name. not (has_list bytes name item)) name
 -- a list with one of these heads is there, with fewer than n items
 abbrev pub has_short : List ℕ → ℕ → List (List ℕ) → Item → Bool
 has_short bytes n names item = list_any (λ name. is_short n (list_of bytes name item)) names
-
-abbrev pub HasFault : List ℕ → List Wanted → NumFault → Type 0
-HasFault bytes wanted fault = first_fault bytes wanted ≡ Some fault
 
 -- ---- the board
 
@@ -55,18 +52,18 @@ BoardOffends c board other = ⊥
 -- ---- layers: the first `layers` of the board is read
 
 -- a layer's number is the first item of its list
-abbrev pub whole_from : List Item → List Wanted
-whole_from items = wanted_each (Whole ∷ []) items
+abbrev pub layer_fault : List ℕ → Item → Option NumFault
+layer_fault bytes layer = if_there whole_fault bytes (slice_get (children_of layer) 0)
 
-unfoldable pub layer_numbers : Item → List Wanted
-layer_numbers layers = flat_map (λ layer. whole_from (children_of layer)) (layers_in layers)
+unfoldable pub layers_fault : List ℕ → Item → Option NumFault
+layers_fault bytes layers = first_of (map (layer_fault bytes) (layers_in layers))
 
 abbrev pub layer_names_in : List ℕ → Item → List Name
 layer_names_in bytes layers = filter_map (name_of_layer bytes) (layers_in layers)
 
 abbrev pub LayersOffend : Context → Item → OffenceKind → Type 0
 LayersOffend c layers kinds.MissingPart = IsTrue (list_any (λ layer. is_none (name_of_layer c.bytes layer)) (layers_in layers))
-LayersOffend c layers (kinds.Number fault) = HasFault c.bytes (layer_numbers layers) fault
+LayersOffend c layers (kinds.Number fault) = layers_fault c.bytes layers ≡ Some fault
 LayersOffend c layers kinds.DoubleLayer = IsTrue (has_double (layer_names_in c.bytes layers))
 LayersOffend c layers kinds.TooMany = 32 < length (filter is_copper (layer_names_in c.bytes layers))
 LayersOffend c layers other = ⊥
@@ -90,7 +87,7 @@ is_declared_among nets (Some n) = has_number nets n
 
 abbrev pub NetOffends : Context → List Placed → Placed → OffenceKind → Type 0
 NetOffends c before p kinds.MissingPart = IsTrue (is_short 1 (Some p.item))
-NetOffends c before p (kinds.Number fault) = HasFault c.bytes (whole_from (behind_head p.item)) fault
+NetOffends c before p (kinds.Number fault) = whole_fault_at c.bytes 0 (Some p.item) ≡ Some fault
 NetOffends c before p kinds.DoubleNet = IsTrue (is_declared_among (nets_among c.bytes before) (declared_net c.bytes p.item))
 NetOffends c before p kinds.TooMany = IsOneTooMany c before p
 NetOffends c before p other = ⊥
@@ -132,7 +129,7 @@ track_lacks bytes item =
 
 abbrev pub TrackOffends : Context → List Placed → Placed → OffenceKind → Type 0
 TrackOffends c before p kinds.MissingPart = IsTrue (track_lacks c.bytes p.item)
-TrackOffends c before p (kinds.Number fault) = HasFault c.bytes (track_numbers c.bytes p.item) fault
+TrackOffends c before p (kinds.Number fault) = track_fault c.bytes p.item ≡ Some fault
 TrackOffends c before p kinds.BadSize = IsTrue (has_bad_size c.bytes (codes "width") p.item)
 TrackOffends c before p kinds.UnknownLayer = is_among c.copper (track_layer c.bytes p.item) ≡ false
 TrackOffends c before p kinds.UnknownNet = IsTrue (is_unknown_net c (net_of c.bytes p.item))
@@ -148,7 +145,7 @@ via_lacks bytes item =
 
 abbrev pub ViaOffends : Context → List Placed → Placed → OffenceKind → Type 0
 ViaOffends c before p kinds.MissingPart = IsTrue (via_lacks c.bytes p.item)
-ViaOffends c before p (kinds.Number fault) = HasFault c.bytes (via_numbers c.bytes p.item) fault
+ViaOffends c before p (kinds.Number fault) = via_fault c.bytes p.item ≡ Some fault
 ViaOffends c before p kinds.BadSize = IsTrue (has_bad_size c.bytes (codes "size") p.item)
 ViaOffends c before p kinds.UnknownLayer = (is_among c.copper (via_layer c.bytes 0 p.item) && is_among c.copper (via_layer c.bytes 1 p.item)) ≡ false
 ViaOffends c before p kinds.UnknownNet = IsTrue (is_unknown_net c (net_of c.bytes p.item))
@@ -176,7 +173,7 @@ has_angle bytes item = not (is_none (turns_at bytes (list_of bytes (codes "at") 
 -- what a footprint says for its pads is read where it stands; its place and angle are needed where a pad of it is read
 abbrev pub FootprintOffends : Context → Item → OffenceKind → Type 0
 FootprintOffends c item kinds.MissingPart = IsTrue (footprint_lacks c item)
-FootprintOffends c item (kinds.Number fault) = HasFault c.bytes (footprint_numbers c.bytes item) fault
+FootprintOffends c item (kinds.Number fault) = footprint_fault c.bytes item ≡ Some fault
 FootprintOffends c item kinds.Angle = IsTrue (has_read_pad c item && not (has_angle c.bytes item))
 FootprintOffends c item kinds.BadSize =
     IsTrue (has_bad_length c.bytes (codes "clearance" ∷ codes "thermal_gap" ∷ codes "thermal_width" ∷ []) item || is_bad_connect c.bytes item)
@@ -274,7 +271,7 @@ abbrev pub OutlineOffends : Context → List Placed → Placed → OffenceKind �
 OutlineOffends c before p kinds.ManyOutlines = IsTrue (has_two_outlines c.bytes p.item)
 OutlineOffends c before p kinds.PolygonArc = IsTrue (has_arc c.bytes p.item)
 OutlineOffends c before p kinds.MissingPart = IsTrue (outline_lacks c.bytes p.item)
-OutlineOffends c before p (kinds.Number fault) = HasFault c.bytes (zones.corner_numbers c.bytes p.item) fault
+OutlineOffends c before p (kinds.Number fault) = zones.corners_fault c.bytes p.item ≡ Some fault
 OutlineOffends c before p kinds.UnknownLayer = IsTrue (has_unknown c.bytes c.copper (zones.layer_list c.bytes p.item))
 OutlineOffends c before p (kinds.Outline fault) = HasBadOutline c.bytes p.item fault
 OutlineOffends c before p kinds.TooMany = IsOneTooMany c before p ⊎ IsLongOutline c.bytes p.item
@@ -305,7 +302,7 @@ ZoneOffends c before p kinds.HatchFill = IsTrue (is_hatched c.bytes p.item)
 ZoneOffends c before p kinds.Smoothing = IsTrue (is_smoothed c.bytes p.item)
 ZoneOffends c before p kinds.IslandArea = IsTrue (has_other_mode c.bytes p.item)
 ZoneOffends c before p kinds.MissingPart = IsTrue (zone_lacks c.bytes p.item)
-ZoneOffends c before p (kinds.Number fault) = HasFault c.bytes (zones.zone_numbers c.bytes p.item) fault
+ZoneOffends c before p (kinds.Number fault) = zones.zone_fault c.bytes p.item ≡ Some fault
 ZoneOffends c before p kinds.BadSize = IsTrue (zone_is_bad c.bytes p.item)
 ZoneOffends c before p kinds.Thin = size_of (zones.thickness_in c.bytes p.item) < 1000
 ZoneOffends c before p kinds.UnknownNet = IsTrue (is_unknown_net c (net_of c.bytes p.item))
@@ -328,7 +325,7 @@ abbrev pub DrawingOffends : Context → List Placed → Placed → OffenceKind �
 DrawingOffends c before p kinds.CopperGraphic = IsTrue (is_on_copper c.bytes p.item)
 DrawingOffends c before p kinds.EdgeCurve = IsTrue (is_edge c.bytes p.item && is_curved c.bytes p.item)
 DrawingOffends c before p kinds.MissingPart = IsTrue (is_edge c.bytes p.item && lacks_points c.bytes p.item)
-DrawingOffends c before p (kinds.Number fault) = IsTrue (is_edge c.bytes p.item) × HasFault c.bytes (edge_numbers c.bytes p.item) fault
+DrawingOffends c before p (kinds.Number fault) = IsTrue (is_edge c.bytes p.item) × (edge_fault c.bytes p.item ≡ Some fault)
 DrawingOffends c before p kinds.TooMany = IsOneTooMany c before p
 DrawingOffends c before p other = ⊥
 

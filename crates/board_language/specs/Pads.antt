@@ -4,7 +4,7 @@
 --       (pad "1" thru_hole circle (at 0 0 90) (size 2 2) (drill 1) (layers "*.Cu") (net 1 "GND")))
 --
 -- A pad's place is that in the unturned footprint; its angle is already the whole one.
-use Rattle.std.specs.Prelude.{ℕ, ◌+◌, ◌-◌, ◌*◌, ◌/◌, ◌^◌, min, max, Bool, true, false, not, ◌&&◌, ◌||◌, ◌==◌, ◌%◌, nat_lt, cond, if◌then◌else◌, List, [], ◌∷◌, ◌++◌, take, drop, filter, find, codes, is_some, slice_get, unwrap_or, Option, None, Some, ℤ, pos, neg_ℤ, ◌+ℤ◌, ◌-ℤ◌, ◌*ℤ◌, option_map, option_and_then}
+use Rattle.std.specs.Prelude.{ℕ, ◌+◌, ◌-◌, ◌*◌, ◌/◌, ◌^◌, min, max, Bool, true, false, not, ◌&&◌, ◌||◌, ◌==◌, ◌%◌, nat_lt, cond, if◌then◌else◌, List, [], ◌∷◌, map, take, filter, find, codes, is_some, slice_get, unwrap_or, Option, None, Some, ℤ, pos, neg_ℤ, ◌+ℤ◌, ◌-ℤ◌, ◌*ℤ◌, option_map, option_and_then}
 use Rattle.std.specs.Option.{option_or}
 use Rattle.std.specs.List.{list_any}
 use Rattle.std.specs.Str.{bytes_eq}
@@ -22,10 +22,10 @@ use Rattle.board_language.specs.declared.PadKind.TheVariants.{Plated, Surface, H
 use Rattle.board_language.specs.declared.Join.{Join}
 use Rattle.board_language.specs.declared.Join.TheVariants.{Thermal, Solid, Apart, PlatedThermal}
 use Rattle.board_language.specs.Fields.{list_of, text_of, text_at, says_at}
-use Rattle.board_language.specs.Numbers.{Wanted, Form, Length, Ratio, wanted_each, wanted_behind, first_fault, read_or, length_of, length_at, ratio_of, whole_number, value_at, quarter_turns}
+use Rattle.board_language.specs.Numbers.{first_of, item_fault, length_fault, point_fault, length_fault_at, whole_fault_at, ratio_fault_at, read_or, length_of, length_at, ratio_of, whole_number, value_at, quarter_turns}
 use Rattle.board_language.specs.Layers.{has_copper, layer_set}
 use Rattle.board_language.specs.Board.{Shape, Pad}
-use Rattle.board_language.specs.Items.{Context, line_of, size_of, length_in, point_in, whole_in, net_of, wanted_point, wanted_length, wanted_whole}
+use Rattle.board_language.specs.Items.{Context, line_of, size_of, length_in, point_in, net_of}
 
 -- ---- types, shapes and layers
 
@@ -229,27 +229,32 @@ pad_of c footprint pad =
       line = line_of c.bytes pad.from;
     }
 
--- ---- the numbers that are needed, in the order in which they are read
+-- ---- the first of the numbers that can't be read, in the order in which they are read
 
-abbrev pub drill_numbers : List ℕ → Item → List Wanted
-drill_numbers bytes pad = if is_hole bytes pad then wanted_each (Length ∷ Length ∷ []) (drill_of bytes pad) else []
+abbrev pub drill_fault : List ℕ → Item → Option NumFault
+drill_fault bytes pad = if is_hole bytes pad then first_of (map (item_fault length_fault bytes) (drill_of bytes pad)) else None
 
 unfoldable pub pad_fault : List ℕ → Item → Item → Option NumFault
 pad_fault bytes footprint pad =
-    option_or (first_fault bytes (wanted_point bytes (codes "at") pad))
-    (option_or (place_fault bytes footprint pad)
-    (first_fault bytes (
-    wanted_point bytes (codes "size") pad
-    ++ (drill_numbers bytes pad
-    ++ (wanted_whole bytes (codes "net") pad
-    ++ (wanted_behind (Ratio ∷ []) (list_of bytes (codes "roundrect_rratio") pad)
-    ++ (wanted_length bytes (codes "clearance") pad
-    ++ (wanted_whole bytes (codes "zone_connect") pad
-    ++ (wanted_length bytes (codes "thermal_gap") pad ++ wanted_behind (Length ∷ []) (bridge_list bytes pad))))))))))
+    first_of (
+    point_fault bytes (list_of bytes (codes "at") pad)
+    ∷ place_fault bytes footprint pad
+    ∷ point_fault bytes (list_of bytes (codes "size") pad)
+    ∷ drill_fault bytes pad
+    ∷ whole_fault_at bytes 0 (list_of bytes (codes "net") pad)
+    ∷ ratio_fault_at bytes 0 (list_of bytes (codes "roundrect_rratio") pad)
+    ∷ length_fault_at bytes 0 (list_of bytes (codes "clearance") pad)
+    ∷ whole_fault_at bytes 0 (list_of bytes (codes "zone_connect") pad)
+    ∷ length_fault_at bytes 0 (list_of bytes (codes "thermal_gap") pad)
+    ∷ length_fault_at bytes 0 (bridge_list bytes pad)
+    ∷ [])
 
-unfoldable pub footprint_numbers : List ℕ → Item → List Wanted
-footprint_numbers bytes item =
-    wanted_point bytes (codes "at") item
-    ++ (wanted_length bytes (codes "clearance") item
-    ++ (wanted_whole bytes (codes "zone_connect") item
-    ++ (wanted_length bytes (codes "thermal_gap") item ++ wanted_length bytes (codes "thermal_width") item)))
+unfoldable pub footprint_fault : List ℕ → Item → Option NumFault
+footprint_fault bytes item =
+    first_of (
+    point_fault bytes (list_of bytes (codes "at") item)
+    ∷ length_fault_at bytes 0 (list_of bytes (codes "clearance") item)
+    ∷ whole_fault_at bytes 0 (list_of bytes (codes "zone_connect") item)
+    ∷ length_fault_at bytes 0 (list_of bytes (codes "thermal_gap") item)
+    ∷ length_fault_at bytes 0 (list_of bytes (codes "thermal_width") item)
+    ∷ [])

@@ -2,13 +2,14 @@
 --
 --     (segment (start 0 0) (end 5 0) (width 0.25) (layer "F.Cu") (net 1) (tstamp ..))
 --     (via (at 5 0) (size 0.6) (drill 0.3) (layers "F.Cu" "B.Cu") (net 1) (tstamp ..))
-use Rattle.std.specs.Prelude.{ℕ, List, [], ◌∷◌, ◌++◌, codes, slice_get, unwrap_or}
+use Rattle.std.specs.Prelude.{ℕ, List, [], ◌∷◌, ◌++◌, codes, slice_get, unwrap_or, Option}
+use Rattle.grid_num.specs.declared.read.NumFault.{NumFault}
 use Rattle.sexpr_text.specs.Items.{Item}
 use Rattle.board_language.specs.Fields.{list_of}
-use Rattle.board_language.specs.Numbers.{Wanted}
+use Rattle.board_language.specs.Numbers.{first_of, point_fault, length_fault_at, whole_fault_at}
 use Rattle.board_language.specs.Layers.{Name, names_of, layer_number, layers_between}
 use Rattle.board_language.specs.Board.{Track, Via}
-use Rattle.board_language.specs.Items.{Context, line_of, span_of, size_of, length_in, point_in, net_of, wanted_point, wanted_length, wanted_whole}
+use Rattle.board_language.specs.Items.{Context, line_of, span_of, size_of, length_in, point_in, net_of}
 
 -- the names in the list with this head; of a track's `layer` the first counts, of a via's `layers` the first two
 abbrev pub layer_names : List ℕ → List ℕ → Item → List Name
@@ -32,12 +33,15 @@ track_of c item =
       line = line_of c.bytes item.from;
     }
 
--- the numbers that a track needs, in the order in which they are read
-unfoldable pub track_numbers : List ℕ → Item → List Wanted
-track_numbers bytes item =
-    wanted_point bytes (codes "start") item
-    ++ (wanted_point bytes (codes "end") item
-    ++ (wanted_length bytes (codes "width") item ++ wanted_whole bytes (codes "net") item))
+-- the first of a track's numbers that can't be read
+unfoldable pub track_fault : List ℕ → Item → Option NumFault
+track_fault bytes item =
+    first_of (
+    point_fault bytes (list_of bytes (codes "start") item)
+    ∷ point_fault bytes (list_of bytes (codes "end") item)
+    ∷ length_fault_at bytes 0 (list_of bytes (codes "width") item)
+    ∷ whole_fault_at bytes 0 (list_of bytes (codes "net") item)
+    ∷ [])
 
 abbrev pub via_layer : List ℕ → ℕ → Item → Name
 via_layer bytes place item = name_at place (layer_names bytes (codes "layers") item)
@@ -54,6 +58,10 @@ via_of c item =
       line = line_of c.bytes item.from;
     }
 
-unfoldable pub via_numbers : List ℕ → Item → List Wanted
-via_numbers bytes item =
-    wanted_point bytes (codes "at") item ++ (wanted_length bytes (codes "size") item ++ wanted_whole bytes (codes "net") item)
+unfoldable pub via_fault : List ℕ → Item → Option NumFault
+via_fault bytes item =
+    first_of (
+    point_fault bytes (list_of bytes (codes "at") item)
+    ∷ length_fault_at bytes 0 (list_of bytes (codes "size") item)
+    ∷ whole_fault_at bytes 0 (list_of bytes (codes "net") item)
+    ∷ [])

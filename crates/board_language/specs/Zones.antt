@@ -13,16 +13,17 @@ use Rattle.std.specs.Option.{option_or}
 use Rattle.std.specs.Str.{bytes_eq}
 use Rattle.std.specs.Int.{int_div_euclid}
 use Rattle.grid_num.specs.declared.Point.{Point}
+use Rattle.grid_num.specs.declared.read.NumFault.{NumFault}
 use Rattle.sexpr_text.specs.Items.{Item, is_headed}
 use Rattle.sexpr_text.specs.declared.Span.{Span}
 use Rattle.board_fields.specs.Lists.{lists_of, headed}
 use Rattle.board_language.specs.declared.Join.{Join}
 use Rattle.board_language.specs.declared.Join.TheVariants.{Thermal, Solid, Apart, PlatedThermal}
 use Rattle.board_language.specs.Fields.{list_of, list_in, has_list, says_at, texts_of, passes}
-use Rattle.board_language.specs.Numbers.{Wanted, Form, Length, Whole, wanted_behind, point_forms, value_at, length_of, whole_number}
+use Rattle.board_language.specs.Numbers.{first_of, point_fault, length_fault_at, whole_fault_at, value_at, length_of, whole_number}
 use Rattle.board_language.specs.Layers.{has_copper, layer_set}
 use Rattle.board_language.specs.Board.{Zone, Settings, ZoneSpans, Area}
-use Rattle.board_language.specs.Items.{Context, line_of, span_of, tail_of, size_of, point_at, whole_in, net_of, wanted_length, wanted_whole}
+use Rattle.board_language.specs.Items.{Context, line_of, span_of, tail_of, size_of, point_at, whole_in, net_of}
 
 -- ---- which are read
 
@@ -160,17 +161,20 @@ zone_of c zone =
 unfoldable pub area_of : Context → Item → Area
 area_of c zone = record { outline = outline_of c.bytes zone; layers = layer_set c.bytes c.copper (layer_list c.bytes zone) }
 
--- ---- the numbers that are needed, in the order in which they are read
+-- ---- the first of the numbers that can't be read, in the order in which they are read
 
-unfoldable pub corner_numbers : List ℕ → Item → List Wanted
-corner_numbers bytes zone = flat_map (λ list. wanted_behind point_forms (Some list)) (corner_lists bytes zone)
+unfoldable pub corners_fault : List ℕ → Item → Option NumFault
+corners_fault bytes zone = first_of (map (λ list. point_fault bytes (Some list)) (corner_lists bytes zone))
 
-unfoldable pub zone_numbers : List ℕ → Item → List Wanted
-zone_numbers bytes zone =
-    wanted_whole bytes (codes "net") zone
-    ++ (wanted_whole bytes (codes "priority") zone
-    ++ (wanted_behind (Length ∷ []) (clearance_list bytes zone)
-    ++ (wanted_length bytes (codes "min_thickness") zone
-    ++ (wanted_behind (Length ∷ []) (gap_list bytes zone)
-    ++ (wanted_behind (Length ∷ []) (bridge_list bytes zone)
-    ++ (wanted_behind (Whole ∷ []) (mode_list bytes zone) ++ corner_numbers bytes zone))))))
+unfoldable pub zone_fault : List ℕ → Item → Option NumFault
+zone_fault bytes zone =
+    first_of (
+    whole_fault_at bytes 0 (list_of bytes (codes "net") zone)
+    ∷ whole_fault_at bytes 0 (list_of bytes (codes "priority") zone)
+    ∷ length_fault_at bytes 0 (clearance_list bytes zone)
+    ∷ length_fault_at bytes 0 (list_of bytes (codes "min_thickness") zone)
+    ∷ length_fault_at bytes 0 (gap_list bytes zone)
+    ∷ length_fault_at bytes 0 (bridge_list bytes zone)
+    ∷ whole_fault_at bytes 0 (mode_list bytes zone)
+    ∷ corners_fault bytes zone
+    ∷ [])

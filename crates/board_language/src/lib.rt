@@ -3,6 +3,12 @@
 //! Lengths are nanometres, lengths of shapes are halves of a nanometre, places are numbers of bytes.
 #![tactic(auto)]
 
+ghost use Rattle.std.specs.Prelude.{◌≡◌, ℕ, ℤ, pos, List, Some, None};
+ghost use Rattle.grid_num.specs.Length.{IsLength};
+ghost use Rattle.grid_num.specs.Faults.{HasFault};
+ghost use Rattle.grid_num.specs.declared.read.NumFault.{NumFault};
+ghost use Rattle.board_language.specs.Numbers.{length_fault, length_of};
+
 mod offence;
 
 pub use offence::OffenceKind;
@@ -30,3 +36,9 @@ pub enum Join {
     /// By spokes where the pad is plated, and by copper all round where it is not.
     PlatedThermal,
 }
+
+/// A length is read here as `grid_num` reads it: the same lengths, and the same faults.
+pub fn length_law()
+    ensures length { (text : List ℕ) (nm : ℤ) → IsLength text nm → (length_fault text ≡ None) × (nm ≡ length_of text) }
+    ensures fault { (text : List ℕ) (fault : NumFault) → HasFault text fault → (length_fault text ≡ Some fault) × (pos 0 ≡ length_of text) }
+{}

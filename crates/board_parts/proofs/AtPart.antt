@@ -1,7 +1,12 @@
 -- What holds of the item that a node is, holds of the item that is built from the node.
-use Rattle.std.proofs.Common.{◌≡◌, ℕ, zero, suc, ◌+◌, ◌<◌, List, [], ◌∷◌, length, map, get_or, refl, sym, ap, ◌∙◌, arith, Option, Some, None, option_map, find}
-use Rattle.sexpr_text.specs.Items.{Item, children_of, is_headed}
-use Rattle.board_language.specs.Fields.{list_of}
+use Rattle.std.proofs.Common.{◌≡◌, ℕ, zero, suc, ◌+◌, ◌<◌, List, [], ◌∷◌, length, map, get_or, refl, sym, ap, ◌∙◌, arith, Option, Some, None, option_map, find, Bool, true, false, cond, ◌⊎◌, inl, inr, slice_range}
+use Rattle.std.specs.Str.{bytes_eq}
+use Rattle.sexpr_text.specs.Items.{Item, children_of, content_of, head_of, is_headed, is_name}
+use Rattle.sexpr_text.specs.declared.Span.{Span}
+use Rattle.sexpr_text.specs.declared.NodeKind.{NodeKind}
+use Rattle.sexpr_text.specs.declared.NodeKind.TheVariants as kinds
+use Rattle.board_fields.specs.Lists.{is_list_kind}
+use Rattle.board_language.specs.Fields.{list_of, text_of}
 use Rattle.sexpr_text.specs.Flat.{Shown, IsNode, AreNodes, IsNodeOrNone}
 use Rattle.text_items.specs.Parts.{IsPart, Part, part_of, item_at}
 use Rattle.text_items.proofs.ItemAt.{item_is, is_node_at}
@@ -51,3 +56,32 @@ pub list_none : (bytes name : List ℕ) (nodes : List Shown) (id : ℕ) (found :
     → ((item : Item) → IsNode nodes id item → IsNodeOrNone nodes found (find (is_headed bytes name) (children_of item)))
     → None ≡ option_map (part_of bytes) (list_of bytes name (item_at nodes id))
 list_none bytes name nodes id found p e h = ap (option_map (λ m. part_of bytes (item_at nodes m))) (sym e) ∙ list_is bytes name nodes id found p h
+
+-- the head of a list, and what it says of the list's name
+pub head_some : (bytes name : List ℕ) (nodes : List Shown) (id : ℕ) (found : Option Span) (head : Span) (same : Bool) → IsPart bytes nodes id → found ≡ Some head
+    → ((item : Item) → IsNode nodes id item → found ≡ head_of item) → same ≡ bytes_eq (slice_range bytes head.from head.to) name → same ≡ is_headed bytes name (item_at nodes id)
+head_some bytes name nodes id found head same p e h s =
+    s ∙ ap (is_name bytes name) (sym e ∙ h (item_at nodes id) (is_node_at bytes nodes id p.tree p.below))
+
+pub head_none : (bytes name : List ℕ) (nodes : List Shown) (id : ℕ) (found : Option Span) → IsPart bytes nodes id → found ≡ None
+    → ((item : Item) → IsNode nodes id item → found ≡ head_of item) → false ≡ is_headed bytes name (item_at nodes id)
+head_none bytes name nodes id found p e h = ap (is_name bytes name) (sym e ∙ h (item_at nodes id) (is_node_at bytes nodes id p.tree p.below))
+
+-- a list has no content, and a leaf has one
+list_text : (bytes : List ℕ) (item : Item) (kind : NodeKind) → kind ≡ kinds.List → kind ≡ item.kind → None ≡ text_of bytes item
+list_text bytes item kind e k = ap (λ x. cond (is_list_kind x) None (Some (content_of bytes item))) (sym e ∙ k)
+
+pub no_text : (bytes : List ℕ) (nodes : List Shown) (id : ℕ) (kind : NodeKind) → IsPart bytes nodes id → kind ≡ kinds.List → ((item : Item) → IsNode nodes id item → kind ≡ item.kind)
+    → None ≡ text_of bytes (item_at nodes id)
+no_text bytes nodes id kind p e h = list_text bytes (item_at nodes id) kind e (h (item_at nodes id) (is_node_at bytes nodes id p.tree p.below))
+
+leaf_kind : (kind : NodeKind) → (kind ≡ kinds.Word) ⊎ (kind ≡ kinds.Text) → is_list_kind kind ≡ false
+leaf_kind kind (inl e) = ap is_list_kind e
+leaf_kind kind (inr e) = ap is_list_kind e
+
+pub some_text : (bytes : List ℕ) (nodes : List Shown) (id : ℕ) (kind : NodeKind) (text : List ℕ) → IsPart bytes nodes id → (kind ≡ kinds.Word) ⊎ (kind ≡ kinds.Text)
+    → ((item : Item) → IsNode nodes id item → kind ≡ item.kind) → ((item : Item) → IsNode nodes id item → text ≡ content_of bytes item) → Some text ≡ text_of bytes (item_at nodes id)
+some_text bytes nodes id kind text p e h t =
+    let i : Item = item_at nodes id in
+    let n : IsNode nodes id i = is_node_at bytes nodes id p.tree p.below in
+    ap (λ x. Some x) (t i n) ∙ ap (λ b. cond b None (Some (content_of bytes i))) (sym (leaf_kind kind e) ∙ ap is_list_kind (h i n))

@@ -1,1 +1,2 @@
 pub mod AtPart
+pub mod Walks

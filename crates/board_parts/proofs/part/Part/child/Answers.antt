@@ -3,7 +3,7 @@ use Rattle.sexpr_text.specs.Items.{Item, children_of}
 use Rattle.sexpr_text.specs.Flat.{Shown, IsNode, AreNodes}
 use Rattle.text_items.specs.Parts.{Part, IsPart, part_of, item_at}
 use Rattle.board_parts.proofs.AtPart.{children_count, child_is}
-use Rattle.board_parts.proofs.Part.child.Goals as goal
+use Rattle.board_parts.proofs.part.Part.child.Goals as goal
 
 within : (bytes : List ℕ) (nodes : List Shown) (id place : ℕ) (ids : List ℕ) (p : Part) → IsPart bytes nodes id → part_of bytes (item_at nodes id) ≡ p
     → ((item : Item) → IsNode nodes id item → AreNodes nodes ids (children_of item)) → place < length (children_of p.item) → place < length ids

@@ -1,6 +1,6 @@
 use Rattle.std.proofs.Common.{◌≡◌}
 use Rattle.board_parts.proofs.AtPart.{at_part}
-use Rattle.board_parts.proofs.Part.kind.Goals as goal
+use Rattle.board_parts.proofs.part.Part.kind.Goals as goal
 
 pub returns : goal.returns
 returns c =

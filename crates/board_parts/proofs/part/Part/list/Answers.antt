@@ -1,5 +1,5 @@
 use Rattle.board_parts.proofs.AtPart.{list_some, list_none}
-use Rattle.board_parts.proofs.Part.list.Goals as goal
+use Rattle.board_parts.proofs.part.Part.list.Goals as goal
 
 pub returns-in-Some : goal.returns-in-Some
 returns-in-Some c =

@@ -1,6 +1,6 @@
 use Rattle.std.proofs.Common.{◌≡◌}
 use Rattle.board_parts.proofs.AtPart.{at_part}
-use Rattle.board_parts.proofs.Part.span.Goals as goal
+use Rattle.board_parts.proofs.part.Part.span.Goals as goal
 
 pub returns-clause-from : goal.returns-clause-from
 returns-clause-from c =
