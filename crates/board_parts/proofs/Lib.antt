@@ -1,2 +1,3 @@
 pub mod AtPart
 pub mod Walks
+pub mod Wholes

@@ -3,6 +3,11 @@
 //! Places count from 0 behind the head; what is found is exactly what stands there.
 #![tactic(auto)]
 
+mod list;
+mod number;
 mod part;
+mod text;
 
+pub use number::{first_of, length_fault, length_of, whole_fault, whole_number};
 pub use part::Part;
+pub use text::{has_text, is_text};
