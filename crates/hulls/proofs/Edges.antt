@@ -20,17 +20,17 @@ use Rattle.hulls.proofs.Copper.{copper_law}
 pick_reaches : (t r n : ℕ) → t ≤ n * n → t ≤ (if nat_le t (r * r) then r else n) * (if nat_le t (r * r) then r else n)
 pick_reaches t r n h = grind (arith, nat_tests)
 
-reaches : (t n : ℕ) → t ≤ n * n → t ≤ least_root t n * least_root t n
-reaches t zero h = h
-reaches t (suc n) h = pick_reaches t (least_root t n) (suc n) h
+pub root_reaches : (t n : ℕ) → t ≤ n * n → t ≤ least_root t n * least_root t n
+root_reaches t zero h = h
+root_reaches t (suc n) h = pick_reaches t (least_root t n) (suc n) h
 
 pick_least : (t r n m : ℕ) → r ≤ m → (m < n → t ≤ r * r) → (if nat_le t (r * r) then r else n) ≤ m
 pick_least t r n m h k = grind (arith, nat_tests)
 
-least : (t n m : ℕ) → t ≤ m * m → least_root t n ≤ m
-least t zero m h = omega arith
-least t (suc n) m h = pick_least t (least_root t n) (suc n) m (least t n m h)
-    (λ l. let below : m * m ≤ n * n = square_le m n (omega arith) in reaches t n (omega arith))
+pub root_least : (t n m : ℕ) → t ≤ m * m → least_root t n ≤ m
+root_least t zero m h = omega arith
+root_least t (suc n) m h = pick_least t (least_root t n) (suc n) m (root_least t n m h)
+    (λ l. let below : m * m ≤ n * n = square_le m n (omega arith) in root_reaches t n (omega arith))
 
 pub chord_law : ChordLengthLaw
 unfolding chord_of
@@ -40,8 +40,8 @@ chord_law a b =
     let u = unsigned_abs dx in
     let v = unsigned_abs dy in
     record {
-      reaches = up dx dy _ (reaches (u * u + v * v) (u + v) (omega arith));
-      least = λ n h. least (u * u + v * v) (u + v) n (down dx dy (n * n) h);
+      reaches = up dx dy _ (root_reaches (u * u + v * v) (u + v) (omega arith));
+      least = λ n h. root_least (u * u + v * v) (u + v) n (down dx dy (n * n) h);
     }
   where
     up : (x y : ℤ) (m : ℕ) → unsigned_abs x * unsigned_abs x + unsigned_abs y * unsigned_abs y ≤ m → (x *ℤ x +ℤ y *ℤ y) ≤ℤ pos m

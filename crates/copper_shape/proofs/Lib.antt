@@ -1,0 +1,4 @@
+pub mod Rounded
+pub mod CellLists
+pub mod Cuts
+pub mod Chords
