@@ -6,3 +6,12 @@ pub mod PointToLine
 pub mod LineEnds
 pub mod LineWalk
 pub mod LineCrossing
+pub mod Pairs
+pub mod LineToLine
+pub mod Side
+pub mod Leave
+pub mod Origin
+pub mod AreaToArea
+pub mod Means
+pub mod Sides
+pub mod AreaToLine

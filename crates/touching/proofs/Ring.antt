@@ -1,9 +1,9 @@
 -- Products on whole numbers.
-use Rattle.std.proofs.Common.{◌≡◌, ℕ, zero, suc, arith, ◌*◌, ◌+◌, ap, sym, ◌∙◌}
-use Rattle.std.specs.Prelude.{ℤ, pos, negsuc, neg_ℤ, ◌+ℤ◌, ◌-ℤ◌, ◌*ℤ◌}
+use Rattle.std.proofs.Common.{◌≡◌, ℕ, zero, suc, arith, ◌*◌, ◌+◌, ◌≤◌, ap, sym, ◌∙◌}
+use Rattle.std.specs.Prelude.{ℤ, pos, negsuc, neg_ℤ, ◌+ℤ◌, ◌-ℤ◌, ◌*ℤ◌, ◌≤ℤ◌}
 use Rattle.std.proofs.lemmas.Int.{ints}
 use lib.IntN.{*ℤ_comm, zero-*ℤ}
-use Rattle.plane.proofs.Times.{mul_add, mul_sub, mul_suc}
+use Rattle.plane.proofs.Times.{mul_add, mul_sub, mul_suc, mul_le_back}
 
 -- a negative number times another
 neg_mul : (n : ℕ) (b : ℤ) → negsuc n *ℤ b ≡ neg_ℤ (pos (n + 1) *ℤ b)
@@ -92,3 +92,16 @@ times_sum a b c = omega (arith, ints, *ℤ_comm (a +ℤ b) c, distrib c a b, *�
 
 pub blend : (u v : ℕ) (p t a : ℤ) → (pos u *ℤ p +ℤ pos v *ℤ t) *ℤ a ≡ pos u *ℤ (p *ℤ a) +ℤ pos v *ℤ (t *ℤ a)
 blend u v p t a = omega (arith, ints, times_sum (pos u *ℤ p) (pos v *ℤ t) a, assoc (pos u) p a, assoc (pos v) t a)
+
+-- what has the weight i + j
+pub weigh : (i j : ℕ) (c : ℤ) → pos (i + j) *ℤ c ≡ pos i *ℤ c +ℤ pos j *ℤ c
+weigh i j c = omega (arith, ints, times_sum (pos i) (pos j) c, ap (λ (z : ℤ). z *ℤ c) (split i j))
+  where
+    split : (i j : ℕ) → pos (i + j) ≡ pos i +ℤ pos j
+    split i j = omega (arith, ints)
+
+pub mul_cancel : (k : ℕ) (a b : ℤ) → 1 ≤ k → pos k *ℤ a ≡ pos k *ℤ b → a ≡ b
+mul_cancel k a b one e =
+    let l = mul_le_back k a b one (omega (arith, ints, e)) in
+    let h = mul_le_back k b a one (omega (arith, ints, e)) in
+    omega (arith, ints)
