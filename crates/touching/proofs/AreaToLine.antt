@@ -1,17 +1,17 @@
 -- An area and a line are close, by the decision, exactly where points of them are within reach.
-use Rattle.std.proofs.Common.{◌≡◌, refl, ℕ, ◌≤◌, ◌+◌, ◌*◌, inl, inr, ⊎_elim, arith, ap, sym, subst, lit≤, ◌∙◌}
+use Rattle.std.proofs.Common.{◌≡◌, refl, ℕ, ◌≤◌, ◌+◌, ◌*◌, inl, inr, ⊎_elim, arith, ap, sym, subst, ◌∙◌}
 use Rattle.std.specs.Prelude.{ℤ, pos, ◌+ℤ◌, ◌-ℤ◌, ◌*ℤ◌}
 use Rattle.std.proofs.lemmas.Int.{ints}
 use lib.IntN.{zero-*ℤ}
 use Rattle.touching.specs.Core.{Core, Spot, area, line, OnLine, InCore}
-use Rattle.touching.specs.Decision.{Side, start_of, end_of, IsAreaClose}
+use Rattle.touching.specs.Decision.{start_of, end_of, IsAreaClose}
 use Rattle.touching.proofs.Ring.{weigh}
 use Rattle.touching.proofs.Short.{IsShort, shrunk, as_short}
 use Rattle.touching.proofs.Leave.{Leaves, leave}
 use Rattle.touching.proofs.Pairs.{Pair, InCore-same}
 use Rattle.touching.proofs.Sides.{side_in, on_side}
 use Rattle.touching.proofs.LineToLine.{lines_close, close_lines}
-use Rattle.plane.specs.Plane.{PlanePoint, Bounds, In, Within, IsTight, grid_point, times, positive_product}
+use Rattle.plane.specs.Plane.{PlanePoint, Bounds, In, Within, IsTight, grid_point, positive_product}
 use Rattle.plane.proofs.Times.{mul_add, mul_sub}
 use Rattle.plane.proofs.Points.{mul_mul, mul_swap}
 
@@ -146,6 +146,12 @@ start_on s t = record { i = 1; j = 0; some = omega arith; x = first s.x t.x; y =
     first : (a b : ℤ) → pos (1 + 0) *ℤ a ≡ pos 1 *ℤ (pos 1 *ℤ a +ℤ pos 0 *ℤ b)
     first a b = omega (arith, ints, zero-*ℤ b)
 
+pub end_on : (s t : Spot) → OnLine s t (grid_point t.x t.y)
+end_on s t = record { i = 0; j = 1; some = omega arith; x = last s.x t.x; y = last s.y t.y }
+  where
+    last : (a b : ℤ) → pos (0 + 1) *ℤ b ≡ pos 1 *ℤ (pos 0 *ℤ a +ℤ pos 1 *ℤ b)
+    last a b = omega (arith, ints, zero-*ℤ a)
+
 -- an area and a line with a common point
 met_close : (a : ℕ) (b : Bounds) (s t : Spot) (q : PlanePoint) → In b q → OnLine s t q → IsAreaClose a b s t
 unfolding IsAreaClose InCore
@@ -153,8 +159,11 @@ met_close a b s t q h on =
     ⊎_elim {C = IsAreaClose a b s t} (λ z. inl (at_one b s.x s.y z))
     (λ (l : Leaves b q (grid_point s.x s.y)).
     let k = on_side b l.at l.inside l.on in
-    inr (k.0, lines_close a (start_of b k.0) (end_of b k.0) s t
-    (same_pair a (line (start_of b k.0) (end_of b k.0)) (line s t) l.at k.1 (way_on b s t q on l))))
+    inr (
+      k.0,
+      lines_close a (start_of b k.0) (end_of b k.0) s t
+          (same_pair a (line (start_of b k.0) (end_of b k.0)) (line s t) l.at k.1 (way_on b s t q on l)),
+    ))
     (leave b q (grid_point s.x s.y) h)
 
 pub area_close : (a : ℕ) (b : Bounds) (s t : Spot) → Pair a (area b) (line s t) → IsAreaClose a b s t
@@ -163,8 +172,11 @@ area_close a b s t h =
     ⊎_elim {C = IsAreaClose a b s t} (λ z. met_close a b s t h.q z h.second)
     (λ (l : Leaves b h.p h.q).
     let k = on_side b l.at l.inside l.on in
-    inr (k.0, lines_close a (start_of b k.0) (end_of b k.0) s t
-    (left_pair a b (line s t) h l (line (start_of b k.0) (end_of b k.0)) k.1)))
+    inr (
+      k.0,
+      lines_close a (start_of b k.0) (end_of b k.0) s t
+          (left_pair a b (line s t) h l (line (start_of b k.0) (end_of b k.0)) k.1),
+    ))
     (leave b h.p h.q h.first)
 
 pub close_area : (a : ℕ) (b : Bounds) (s t : Spot) → IsTight b → IsAreaClose a b s t → Pair a (area b) (line s t)

@@ -15,3 +15,5 @@ pub mod AreaToArea
 pub mod Means
 pub mod Sides
 pub mod AreaToLine
+pub mod Decided
+pub mod Nearest

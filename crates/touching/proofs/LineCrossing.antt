@@ -96,7 +96,7 @@ parallel_y vx vy yx yy e =
       zero-*ℤ yx,
     )
 
-no_square : (a b : ℤ) → inner a b a b ≡ pos 0 → (a ≡ pos 0) × (b ≡ pos 0)
+pub no_square : (a b : ℤ) → inner a b a b ≡ pos 0 → (a ≡ pos 0) × (b ≡ pos 0)
 no_square a b e = (zero_of a (omega (arith, ints, (square_is a).1, (square_is b).1)), zero_of b (omega (arith, ints, (square_is a).1, (square_is b).1)))
   where
     zero_of : (a : ℤ) → a *ℤ a ≡ pos 0 → a ≡ pos 0

@@ -1,12 +1,12 @@
 -- Two lines are close, by the decision, exactly where points of them are within reach.
-use Rattle.std.proofs.Common.{◌≡◌, refl, ℕ, ◌≤◌, ◌+◌, ◌*◌, ◌-◌, ◌⊎◌, inl, inr, ⊎_elim, arith, ap, sym}
+use Rattle.std.proofs.Common.{◌≡◌, refl, ℕ, ◌≤◌, ◌+◌, ◌*◌, ◌-◌, ◌⊎◌, inl, inr, ⊎_elim, arith, ap}
 use Rattle.std.specs.Prelude.{ℤ, pos, neg_ℤ, ◌+ℤ◌, ◌-ℤ◌, ◌*ℤ◌}
 use Rattle.std.proofs.lemmas.Int.{ints}
 use Rattle.touching.specs.Core.{Spot, line, OnLine, InCore}
 use Rattle.touching.specs.Decision.{IsPointClose, AreLinesClose}
 use Rattle.touching.proofs.Ring.{weigh}
 use Rattle.touching.proofs.Short.{rescaled, as_short, turned_back}
-use Rattle.touching.proofs.PointToLine.{IsNear, near_test, test_near}
+use Rattle.touching.proofs.PointToLine.{near_test, test_near}
 use Rattle.touching.proofs.LineEnds.{AreNear, EndNear}
 use Rattle.touching.proofs.LineCrossing.{segments, end_near, crosses_near}
 use Rattle.touching.proofs.Pairs.{Pair}
@@ -83,7 +83,7 @@ pair_near a s t u v h = from_places h.first h.second
     }
 
 -- the place m / n of a line
-place : (n m : ℕ) → 1 ≤ n → Spot → Spot → PlanePoint
+unfoldable pub place : (n m : ℕ) → 1 ≤ n → Spot → Spot → PlanePoint
 place n m one s t = record {
   x = pos (n - m) *ℤ s.x +ℤ pos m *ℤ t.x;
   y = pos (n - m) *ℤ s.y +ℤ pos m *ℤ t.y;
@@ -94,7 +94,7 @@ place n m one s t = record {
 rest : (n m : ℕ) → m ≤ n → (n - m) + m ≡ n
 rest n m h = omega arith
 
-place_on : (n m : ℕ) (one : 1 ≤ n) (s t : Spot) → m ≤ n → OnLine s t (place n m one s t)
+pub place_on : (n m : ℕ) (one : 1 ≤ n) (s t : Spot) → m ≤ n → OnLine s t (place n m one s t)
 unfolding place
 place_on n m one s t h = record {
   i = n - m;
@@ -103,6 +103,10 @@ place_on n m one s t h = record {
   x = ap (λ (k : ℕ). pos k *ℤ (pos (n - m) *ℤ s.x +ℤ pos m *ℤ t.x)) (rest n m h);
   y = ap (λ (k : ℕ). pos k *ℤ (pos (n - m) *ℤ s.y +ℤ pos m *ℤ t.y)) (rest n m h);
 }
+
+-- the mean by the step from its start
+pub whole : (n m : ℕ) (s t : ℤ) → m ≤ n → (pos (n - m) *ℤ s +ℤ pos m *ℤ t) ≡ (pos n *ℤ s +ℤ pos m *ℤ (t -ℤ s))
+whole n m s t h = omega (arith, ints, weigh (n - m) m s, mul_sub m t s, ap (λ (k : ℕ). pos k *ℤ s) (rest n m h))
 
 pub near_pair : (a : ℕ) (s t u v : Spot)
     → AreNear a (s.x -ℤ u.x) (s.y -ℤ u.y) (t.x -ℤ s.x) (t.y -ℤ s.y) (v.x -ℤ u.x) (v.y -ℤ u.y) → Pair a (line s t) (line u v)
@@ -118,9 +122,6 @@ near_pair a s t u v h = record {
       (steps h.n h.m h.l s.y t.y u.y v.y h.on_first h.on_second) h.close;
 }
   where
-    whole : (n m : ℕ) (s t : ℤ) → m ≤ n → (pos (n - m) *ℤ s +ℤ pos m *ℤ t) ≡ (pos n *ℤ s +ℤ pos m *ℤ (t -ℤ s))
-    whole n m s t h = omega (arith, ints, weigh (n - m) m s, mul_sub m t s, ap (λ (k : ℕ). pos k *ℤ s) (rest n m h))
-
     steps : (n m l : ℕ) (s t u v : ℤ) → m ≤ n → l ≤ n
         → ((pos (n - m) *ℤ s +ℤ pos m *ℤ t) -ℤ (pos (n - l) *ℤ u +ℤ pos l *ℤ v))
         ≡ (pos n *ℤ (s -ℤ u) +ℤ pos m *ℤ (t -ℤ s) -ℤ pos l *ℤ (v -ℤ u))

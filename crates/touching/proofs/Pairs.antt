@@ -2,7 +2,7 @@
 use Rattle.std.proofs.Common.{◌≡◌, refl, ℕ, ◌≤◌, ◌+◌, ◌*◌, arith, ap, sym, subst, ◌∙◌}
 use Rattle.std.specs.Prelude.{ℤ, pos, neg_ℤ, ◌+ℤ◌, ◌-ℤ◌, ◌*ℤ◌, ◌≤ℤ◌}
 use Rattle.std.proofs.lemmas.Int.{ints}
-use Rattle.touching.specs.Core.{Core, Spot, area, line, OnLine, InCore, IsReached, Touches}
+use Rattle.touching.specs.Core.{Core, area, line, InCore, IsReached, Touches}
 use Rattle.touching.proofs.Ring.{mul_cancel}
 use Rattle.touching.proofs.Short.{IsShort, shrunk, as_short, turned_back}
 use Rattle.plane.specs.Plane.{PlanePoint, IsSame, minus, positive_product}

@@ -1,11 +1,11 @@
 -- The sides of an area: their points are the area's, and what is on a bound is on a side.
-use Rattle.std.proofs.Common.{◌≡◌, refl, ℕ, ◌≤◌, ◌+◌, inl, inr, arith, sym, subst}
+use Rattle.std.proofs.Common.{refl, ℕ, ◌+◌, inl, inr, arith, sym}
 use Rattle.std.specs.Prelude.{ℤ, pos, ◌+ℤ◌, ◌-ℤ◌, ◌*ℤ◌, ◌≤ℤ◌}
 use Rattle.std.proofs.lemmas.Int.{ints}
 use Rattle.touching.specs.Core.{Spot, OnLine}
 use Rattle.touching.specs.Decision.{Side, top, top_right, right, bottom_right, bottom, bottom_left, left, top_left, start_of, end_of}
 use Rattle.touching.proofs.Ring.{weigh}
-use Rattle.touching.proofs.Means.{Between, upward, downward, level, along_to, against_to}
+use Rattle.touching.proofs.Means.{upward, downward, level, along_to, against_to}
 use Rattle.touching.proofs.Leave.{OnBound}
 use Rattle.plane.specs.Plane.{PlanePoint, Bounds, In, Within, IsTight, times}
 use Rattle.plane.proofs.Times.{mul_add, mul_sub, mul_le}
@@ -89,38 +89,46 @@ on_side b p h (inr (inr (inr (inl e)))) =
     (omega (arith, ints, e, h.d_low, mul_add p.scale b.d0 b.y1)) (omega (arith, ints, e, h.s_high, mul_sub p.scale b.s1 b.y1)) in
     (bottom, record { i = m.i; j = m.j; some = m.some; x = m.is; y = level p.scale m.i m.j b.y1 p.y e })
 on_side b p h (inr (inr (inr (inr (inl e))))) =
-    let m = upward p.scale b.x0 (b.s0 -ℤ b.y0) p.x h.x_low (omega (arith, ints, e, h.y_low, mul_sub p.scale b.s0 b.y0)) in
-    (top_left, record {
-      i = m.i;
-      j = m.j;
-      some = m.some;
-      x = m.is;
-      y = against_to p.scale m.i m.j b.x0 (b.s0 -ℤ b.y0) b.s0 _ _ p.y p.x refl (omega (arith, ints)) m.is (omega (arith, ints, e));
-    })
+    let m = upward p.scale b.x0 (b.s0 -ℤ b.y0) p.x h.x_low (omega (arith, ints, e, h.y_low, mul_sub p.scale b.s0 b.y0)) in (
+      top_left,
+      record {
+        i = m.i;
+        j = m.j;
+        some = m.some;
+        x = m.is;
+        y = against_to p.scale m.i m.j b.x0 (b.s0 -ℤ b.y0) b.s0 _ _ p.y p.x refl (omega (arith, ints)) m.is (omega (arith, ints, e));
+      },
+    )
 on_side b p h (inr (inr (inr (inr (inr (inl e)))))) =
-    let m = downward p.scale b.x1 (b.s1 -ℤ b.y1) p.x (omega (arith, ints, e, h.y_high, mul_sub p.scale b.s1 b.y1)) h.x_high in
-    (bottom_right, record {
-      i = m.i;
-      j = m.j;
-      some = m.some;
-      x = m.is;
-      y = against_to p.scale m.i m.j b.x1 (b.s1 -ℤ b.y1) b.s1 _ _ p.y p.x refl (omega (arith, ints)) m.is (omega (arith, ints, e));
-    })
+    let m = downward p.scale b.x1 (b.s1 -ℤ b.y1) p.x (omega (arith, ints, e, h.y_high, mul_sub p.scale b.s1 b.y1)) h.x_high in (
+      bottom_right,
+      record {
+        i = m.i;
+        j = m.j;
+        some = m.some;
+        x = m.is;
+        y = against_to p.scale m.i m.j b.x1 (b.s1 -ℤ b.y1) b.s1 _ _ p.y p.x refl (omega (arith, ints)) m.is (omega (arith, ints, e));
+      },
+    )
 on_side b p h (inr (inr (inr (inr (inr (inr (inl e))))))) =
-    let m = downward p.scale b.y1 (b.x0 -ℤ b.d0) p.y (omega (arith, ints, e, h.x_low, mul_sub p.scale b.x0 b.d0)) h.y_high in
-    (bottom_left, record {
-      i = m.i;
-      j = m.j;
-      some = m.some;
-      x = along_to p.scale m.i m.j b.y1 (b.x0 -ℤ b.d0) b.d0 _ _ p.x p.y (omega (arith, ints)) (omega (arith, ints)) m.is (omega (arith, ints, e));
-      y = m.is;
-    })
+    let m = downward p.scale b.y1 (b.x0 -ℤ b.d0) p.y (omega (arith, ints, e, h.x_low, mul_sub p.scale b.x0 b.d0)) h.y_high in (
+      bottom_left,
+      record {
+        i = m.i;
+        j = m.j;
+        some = m.some;
+        x = along_to p.scale m.i m.j b.y1 (b.x0 -ℤ b.d0) b.d0 _ _ p.x p.y (omega (arith, ints)) (omega (arith, ints)) m.is (omega (arith, ints, e));
+        y = m.is;
+      },
+    )
 on_side b p h (inr (inr (inr (inr (inr (inr (inr e))))))) =
-    let m = upward p.scale b.y0 (b.x1 -ℤ b.d1) p.y h.y_low (omega (arith, ints, e, h.x_high, mul_sub p.scale b.x1 b.d1)) in
-    (top_right, record {
-      i = m.i;
-      j = m.j;
-      some = m.some;
-      x = along_to p.scale m.i m.j b.y0 (b.x1 -ℤ b.d1) b.d1 _ _ p.x p.y (omega (arith, ints)) (omega (arith, ints)) m.is (omega (arith, ints, e));
-      y = m.is;
-    })
+    let m = upward p.scale b.y0 (b.x1 -ℤ b.d1) p.y h.y_low (omega (arith, ints, e, h.x_high, mul_sub p.scale b.x1 b.d1)) in (
+      top_right,
+      record {
+        i = m.i;
+        j = m.j;
+        some = m.some;
+        x = along_to p.scale m.i m.j b.y0 (b.x1 -ℤ b.d1) b.d1 _ _ p.x p.y (omega (arith, ints)) (omega (arith, ints)) m.is (omega (arith, ints, e));
+        y = m.is;
+      },
+    )

@@ -1,6 +1,6 @@
 -- The decision on whole numbers: whether two cores are within reach of one another, by comparing sums of products. The
 -- reach comes as its square a. Nothing here speaks of points at other scales; `Laws` says that it decides of them all.
-use Rattle.std.specs.Prelude.{◌≡◌, ℕ, ◌*◌, ◌⊎◌, ℤ, pos, ◌+ℤ◌, ◌-ℤ◌, ◌*ℤ◌, ◌≤ℤ◌, ◌<ℤ◌}
+use Rattle.std.specs.Prelude.{ℕ, ◌*◌, ◌⊎◌, ℤ, pos, ◌+ℤ◌, ◌-ℤ◌, ◌*ℤ◌, ◌≤ℤ◌, ◌<ℤ◌}
 use Rattle.plane.specs.Plane.{Bounds, Within}
 use Rattle.touching.specs.Core.{Spot, Core, area, line}
 
