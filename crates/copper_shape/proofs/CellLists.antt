@@ -14,7 +14,8 @@ use Rattle.hulls.specs.Cells.{floor_of, ceil_of, cell_of, cells_of, around}
 use Rattle.hulls.specs.Hulls.{hull_of}
 use Rattle.hulls.proofs.Around.{Holds, IsInside, around_inside, one_least_law}
 use Rattle.octagon.specs.Bounded.{IsInReach}
-use Rattle.copper_shape.specs.Ranges.{IsWithin, IsPlace}
+use Rattle.cores.specs.Room.{IsInRoom}
+use Rattle.copper_shape.specs.Ranges.{IsPlace}
 use Rattle.copper_shape.proofs.Rounded.{low_near, high_near}
 
 -- ---- the loop
@@ -37,20 +38,20 @@ cells_end n i places out h e =
 all_four : {X : Type 0} (P : X → Type 0) (a b c d : X) → P a → P b → P c → P d → All P (a ∷ b ∷ c ∷ d ∷ [])
 all_four P a b c d ha hb hc hd = All-cons P a (b ∷ c ∷ d ∷ []) ha (All-cons P b (c ∷ d ∷ []) hb (All-cons P c (d ∷ []) hc (All-cons P d [] hd (All-nil P))))
 
-cell_near : (n : ℕ) (p : Point) → 1 ≤ n → IsPlace n p → All (IsWithin 500000000) (cell_of n p)
+cell_near : (n : ℕ) (p : Point) → 1 ≤ n → IsPlace n p → All (IsInRoom 500000000) (cell_of n p)
 unfolding cell_of
 cell_near n p one h =
     let west = low_near n 500000000 p.x one h.x in
     let east = high_near n 500000000 p.x one h.x in
     let north = low_near n 500000000 p.y one h.y in
     let south = high_near n 500000000 p.y one h.y in
-    all_four (IsWithin 500000000) _ _ _ _ (record { x = west; y = north }) (record { x = east; y = north }) (record { x = west; y = south }) (record { x = east; y = south })
+    all_four (IsInRoom 500000000) _ _ _ _ (record { x = west; y = north }) (record { x = east; y = north }) (record { x = west; y = south }) (record { x = east; y = south })
 
-pub cells_near : (n : ℕ) (ps : List Point) → 1 ≤ n → All (IsPlace n) ps → All (IsWithin 500000000) (cells_of n ps)
+pub cells_near : (n : ℕ) (ps : List Point) → 1 ≤ n → All (IsPlace n) ps → All (IsInRoom 500000000) (cells_of n ps)
 unfolding cells_of
-cells_near n [] one h = All-nil (IsWithin 500000000)
+cells_near n [] one h = All-nil (IsInRoom 500000000)
 cells_near n (p ∷ ps) one h =
-    All-append (IsWithin 500000000) (cell_of n p) (cells_of n ps) (cell_near n p one (All-head (IsPlace n) p ps h)) (cells_near n ps one (All-tail (IsPlace n) p ps h))
+    All-append (IsInRoom 500000000) (cell_of n p) (cells_of n ps) (cell_near n p one (All-head (IsPlace n) p ps h)) (cells_near n ps one (All-tail (IsPlace n) p ps h))
 
 pub cells_some : (n : ℕ) (ps : List Point) → 0 < length ps → 0 < length (cells_of n ps)
 unfolding cells_of cell_of
@@ -58,7 +59,7 @@ cells_some n [] l = absurd (omega arith)
 cells_some n (p ∷ ps) l = omega arith
 
 -- ---- the octagon
-wide : (m : ℕ) (p : Point) → IsWithin m p → Holds (box_of (neg_ℤ (pos m)) (pos m) (neg_ℤ (pos m)) (pos m)) p
+wide : (m : ℕ) (p : Point) → IsInRoom m p → Holds (box_of (neg_ℤ (pos m)) (pos m) (neg_ℤ (pos m)) (pos m)) p
 wide m p h = record {
   x_low = h.x.low;
   x_high = h.x.high;
@@ -70,7 +71,7 @@ wide m p h = record {
   d_high = omega (arith, ints, h.x.high, h.y.low);
 }
 
-pub around_near : (m : ℕ) (ps : List Point) → 0 < length ps → All (IsWithin m) ps → IsInside (around ps) (box_of (neg_ℤ (pos m)) (pos m) (neg_ℤ (pos m)) (pos m))
+pub around_near : (m : ℕ) (ps : List Point) → 0 < length ps → All (IsInRoom m) ps → IsInside (around ps) (box_of (neg_ℤ (pos m)) (pos m) (neg_ℤ (pos m)) (pos m))
 around_near m ps l h = around_inside ps (box_of (neg_ℤ (pos m)) (pos m) (neg_ℤ (pos m)) (pos m)) l (λ k d s. wide m _ (h k d s))
 
 -- what the code has is the octagon round the cells
@@ -93,7 +94,7 @@ code_hull n corners radius cells r a ball l e h f o ea eb =
 quarter_most : (r : ℕ) → r ≤ 2000000000 → div_ceil r 4 ≤ 500000000
 quarter_most r h = omega arith
 
-room : (ps : List Point) (a : ℕ) → 0 < length ps → All (IsWithin 500000000) ps → a ≤ 500000000 → HasRoom (sum_of (around ps) (ball_of a))
+room : (ps : List Point) (a : ℕ) → 0 < length ps → All (IsInRoom 500000000) ps → a ≤ 500000000 → HasRoom (sum_of (around ps) (ball_of a))
 unfolding ball_of
 room ps a l h m =
     let i = around_near 500000000 ps l h in
@@ -112,7 +113,7 @@ hull_room n corners radius cells r a ball l one places m e h f o ea eb =
     rw (around_cells n corners cells r l e h f o, eb, ea)
     (room (cells_of n corners) (div_ceil radius 4) (cells_some n corners l) (cells_near n corners one places) (quarter_most radius m))
 
-pub near_reach : (ps : List Point) → All (IsWithin 500000000) ps → All IsInReach ps
+pub near_reach : (ps : List Point) → All (IsInRoom 500000000) ps → All IsInReach ps
 near_reach ps h k d l =
     let w = h k d l in
     record {

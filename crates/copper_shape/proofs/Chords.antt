@@ -1,18 +1,18 @@
 -- The chord of an arc, and the disc on it.
 use Rattle.std.proofs.Common.{◌≡◌, refl, sym, ap, ◌∙◌, ℕ, ◌+◌, ◌*◌, ◌^◌, ◌≤◌, ◌<◌, arith, w64, to_z, of_z, List, [], ◌∷◌}
-use Rattle.std.specs.Prelude.{ℤ, pos, ◌+ℤ◌, ◌-ℤ◌, ◌*ℤ◌, ◌≤ℤ◌, true, false}
+use Rattle.std.specs.Prelude.{ℤ, pos, ◌+ℤ◌, ◌-ℤ◌, ◌*ℤ◌, ◌≤ℤ◌, Bool, true, false}
 use Rattle.std.specs.Int.RustNames.{unsigned_abs}
 use Rattle.std.proofs.lemmas.Int.{ints}
 use Rattle.std.proofs.Math.Nat.{mul-le-mul}
 use Rattle.grid_num.specs.declared.Point.{Point}
 use Rattle.plane.specs.Plane.{Bounds, box_of, least_root}
 use Rattle.covering.specs.Corners.{corners_of}
-use Rattle.touching.specs.Core.{Core, area, line}
+use Rattle.touching.specs.Core.{Core, Spot, area, line}
 use Rattle.hulls.specs.Hulls.{chord_of, hull_of, hulls_of, edge_core, edge_radius, edge_hulls_of, in_halves}
 use Rattle.hulls.proofs.Edges.{root_reaches, root_least}
-use Rattle.copper_shape.specs.Ranges.{IsWithin}
+use Rattle.cores.specs.Room.{IsInRoom}
 
-pub far_apart : (a b : ℤ) → IsWithin 500000000 (record { x = a; y = b }) → unsigned_abs (a -ℤ b) ≤ 1000000000
+pub far_apart : (a b : ℤ) → IsInRoom 500000000 (record { x = a; y = b }) → unsigned_abs (a -ℤ b) ≤ 1000000000
 far_apart a b h = omega (arith, ints, h.x, h.y)
 
 pub square_room : (w h : ℕ) → w ≤ 1000000000 → h ≤ 1000000000 → w * w + h * h ≤ 2000000000000000000
@@ -32,32 +32,23 @@ chord_is a b w h r ew eh reaches least = rw (sym ew, sym eh) (plain (w * w + h *
         let above = least (least_root t n) (root_reaches t n room) in
         omega arith
 
--- ---- the disc's hull
-abbrev point : ℤ → ℤ → Point
-point x y = record { x = x; y = y }
+-- ---- the copper that stands for an edge
+pub arc_core : (a b : Point) (x y : ℤ) (c : Core) → x ≡ a.x +ℤ b.x → y ≡ a.y +ℤ b.y → c ≡ area (box_of x x y y) → c ≡ edge_core a b true
+unfolding edge_core
+arc_core a b x y c ex ey e = rw (ex, ey) at e
 
-point_eq : (x y u v : ℤ) → x ≡ u → y ≡ v → point x y ≡ point u v
-point_eq x y u v e f = cc
+pub line_core : (a b : Point) (s t : Spot) (c : Core) → s ≡ in_halves a → t ≡ in_halves b → c ≡ line s t → c ≡ edge_core a b false
+unfolding edge_core
+line_core a b s t c es et e = rw (es, et) at e
 
--- all corners of a point are the point
-pub point_corners : (x y : ℤ) → corners_of (box_of x x y y) ≡ point x y ∷ point x y ∷ point x y ∷ point x y ∷ point x y ∷ point x y ∷ point x y ∷ point x y ∷ []
-point_corners x y =
-    let a : (x +ℤ y) -ℤ y ≡ x = omega (arith, ints) in
-    let b : (x -ℤ y) +ℤ y ≡ x = omega (arith, ints) in
-    let c : x -ℤ (x -ℤ y) ≡ y = omega (arith, ints) in
-    let d : (x +ℤ y) -ℤ x ≡ y = omega (arith, ints) in
-    rw (a, b, c, d) refl
+pub arc_radius : (a b : Point) (r : ℕ) → r ≡ chord_of a b → r ≡ edge_radius a b true
+unfolding edge_radius
+arc_radius a b r e = e
 
-pub disc_hulls : (x y : ℤ) (r : ℕ) (p : Point) (out : List Bounds) (h : Bounds) → p ≡ point x y → h ≡ hull_of 4 (p ∷ p ∷ p ∷ p ∷ p ∷ p ∷ p ∷ p ∷ []) r → out ≡ h ∷ []
-    → out ≡ hulls_of (area (box_of x x y y)) r
-unfolding hulls_of
-disc_hulls x y r p out h e eh eo = rw (eo, eh, e, point_corners x y) refl
+pub line_radius : (a b : Point) (r : ℕ) → r ≡ 0 → r ≡ edge_radius a b false
+unfolding edge_radius
+line_radius a b r e = e
 
-pub arc_is : (a b : Point) (r : ℕ) (p : Point) (out : List Bounds) (h : Bounds) → p ≡ point (a.x +ℤ b.x) (a.y +ℤ b.y) → r ≡ chord_of a b
-    → h ≡ hull_of 4 (p ∷ p ∷ p ∷ p ∷ p ∷ p ∷ p ∷ p ∷ []) r → out ≡ h ∷ [] → out ≡ edge_hulls_of a b true
-unfolding edge_hulls_of edge_core edge_radius
-arc_is a b r p out h e er eh eo = rw (sym er) (disc_hulls (a.x +ℤ b.x) (a.y +ℤ b.y) r p out h e eh eo)
-
-pub line_is : (a b : Point) (out : List Bounds) → out ≡ hulls_of (line (in_halves a) (in_halves b)) 0 → out ≡ edge_hulls_of a b false
-unfolding edge_hulls_of edge_core edge_radius
-line_is a b out e = e
+pub edge_is : (a b : Point) (bow : Bool) (c : Core) (r : ℕ) → c ≡ edge_core a b bow → r ≡ edge_radius a b bow → hulls_of c r ≡ edge_hulls_of a b bow
+unfolding edge_hulls_of
+edge_is a b bow c r ec er = rw (ec, er) refl

@@ -11,7 +11,8 @@ use Rattle.plane.specs.Narrow.{IsNearZero}
 use Rattle.plane.proofs.Times.{mul_le, mul_neg}
 use Rattle.touching.specs.Core.{Spot, line}
 use Rattle.hulls.specs.Hulls.{hull_of, cut_at, is_slanted, piece_count, piece_hull, piece_hulls, hulls_of}
-use Rattle.copper_shape.specs.Ranges.{IsWithin, IsPlace}
+use Rattle.cores.specs.Room.{IsInRoom}
+use Rattle.copper_shape.specs.Ranges.{IsPlace}
 
 product_near : (i m : ℕ) (s : ℤ) → IsNearZero m s → IsNearZero (i * m) (pos i *ℤ s)
 product_near i m s h = record {

@@ -2,3 +2,4 @@ pub mod Rounded
 pub mod CellLists
 pub mod Cuts
 pub mod Chords
+pub mod Within

@@ -1,13 +1,12 @@
 // Board edges, and the hulls of segments and of the discs on the chords of arcs.
-ghost use Rattle.std.specs.Prelude.{◌≡◌, ℕ, ◌*◌, ◌^◌, ◌≤◌, ◌<◌, false, true, IfOk};
+ghost use Rattle.std.specs.Prelude.{◌≡◌, ℕ, ◌*◌, ◌^◌, ◌≤◌, ◌<◌, ◌+ℤ◌, false, true, IfOk};
 ghost use Rattle.plane.specs.Plane.{PlanePoint};
 ghost use Rattle.touching.specs.Core.{OnLine};
-ghost use Rattle.hulls.specs.Hulls.{chord_of, edge_hulls_of, in_halves, corner};
-ghost use Rattle.hulls.specs.Laws.{InSome, InChordDisc, nm_in_units, spot};
-ghost use Rattle.copper_shape.specs.Ranges.{IsWithin};
+ghost use Rattle.hulls.specs.Hulls.{chord_of, edge_core, edge_radius, edge_hulls_of, in_halves, corner};
+ghost use Rattle.hulls.specs.Laws.{InSome, InChordDisc, nm_in_units};
+ghost use Rattle.cores.specs.Room.{IsInRoom, spot};
 
-use crate::cells::hull;
-use crate::pieces::segment_hulls;
+use crate::Shape;
 use grid_num::{Memory, Point};
 use octagon::Oct;
 use std::alloc::Global;
@@ -24,50 +23,50 @@ pub struct Edge {
 /// The hulls of a board edge: octagons that hold every point of the segment, or of the disc on an arc's chord. Refuses
 /// for want of memory alone.
 pub fn edge_hulls(alloc: Global, edge: &Edge) -> Result<Vec<Oct>, Memory>
-    requires from { IsWithin 500000000 edge.now.from }
-    requires to { IsWithin 500000000 edge.now.to }
+    requires from { IsInRoom 500000000 edge.now.from }
+    requires to { IsInRoom 500000000 edge.now.to }
     ensures value { IfOk result (λ hulls. hulls.items ≡ edge_hulls_of edge.now.from edge.now.to edge.now.bow) }
     ensures segment { IfOk result (λ hulls. edge.now.bow ≡ false → (p : PlanePoint)
         → OnLine (spot edge.now.from) (spot edge.now.to) p → InSome hulls.items (nm_in_units p)) }
     ensures disc { IfOk result (λ hulls. edge.now.bow ≡ true → (p : PlanePoint)
         → InChordDisc edge.now.from edge.now.to p → InSome hulls.items (nm_in_units p)) }
 {
+    copper_of(edge).hulls(alloc)
+}
+
+// The copper that stands for the edge: its segment without a radius, or the disc on the chord.
+fn copper_of(edge: &Edge) -> Shape
+    requires from { IsInRoom 500000000 edge.now.from }
+    requires to { IsInRoom 500000000 edge.now.to }
+    ensures core { result.core ≡ edge_core edge.now.from edge.now.to edge.now.bow }
+    ensures radius { result.radius ≡ edge_radius edge.now.from edge.now.to edge.now.bow }
+{
     if edge.bow {
-        arc_hulls(alloc, edge.from, edge.to)
+        Shape::disc(middle(edge.from, edge.to), chord(edge.from, edge.to))
     } else {
-        line_hulls(alloc, edge.from, edge.to)
+        Shape::capsule(doubled(edge.from), doubled(edge.to), 0)
     }
 }
 
-// Those of the segment.
-fn line_hulls(alloc: Global, from: Point, to: Point) -> Result<Vec<Oct>, Memory>
-    requires from { IsWithin 500000000 from }
-    requires to { IsWithin 500000000 to }
-    ensures { IfOk result (λ hulls. hulls.items ≡ edge_hulls_of from to false) }
+// The point half way between the two, in halves.
+fn middle(from: Point, to: Point) -> Point
+    requires from { IsInRoom 500000000 from }
+    requires to { IsInRoom 500000000 to }
+    ensures x { result.x ≡ from.x +ℤ to.x }
+    ensures y { result.y ≡ from.y +ℤ to.y }
+    ensures within { IsInRoom 2000000000 result }
 {
-    segment_hulls(alloc, doubled(from), doubled(to), 0)
-}
-
-// Those of the disc on the chord.
-fn arc_hulls(alloc: Global, from: Point, to: Point) -> Result<Vec<Oct>, Memory>
-    requires from { IsWithin 500000000 from }
-    requires to { IsWithin 500000000 to }
-    ensures { IfOk result (λ hulls. hulls.items ≡ edge_hulls_of from to true) }
-{
-    let middle = Point {
+    Point {
         x: from.x + to.x,
         y: from.y + to.y,
-    };
-    let mut hulls = Vec::new(alloc);
-    hulls.push(hull(alloc, 4, &[middle; 8], chord(from, to))?)?;
-    Ok(hulls)
+    }
 }
 
 // Nanometres as halves.
 fn doubled(p: Point) -> Point
-    requires { IsWithin 500000000 p }
+    requires { IsInRoom 500000000 p }
     ensures value { result ≡ corner (in_halves p) }
-    ensures within { IsWithin 2000000000 result }
+    ensures within { IsInRoom 2000000000 result }
 {
     Point {
         x: p.x + p.x,
@@ -77,8 +76,8 @@ fn doubled(p: Point) -> Point
 
 // The distance of the points, rounded up.
 fn chord(from: Point, to: Point) -> u32
-    requires from { IsWithin 500000000 from }
-    requires to { IsWithin 500000000 to }
+    requires from { IsInRoom 500000000 from }
+    requires to { IsInRoom 500000000 to }
     ensures value { result ≡ chord_of from to }
     ensures most { result ≤ 2000000000 }
 {

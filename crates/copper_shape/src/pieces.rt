@@ -3,8 +3,8 @@ ghost use Rattle.std.specs.Prelude.{◌≡◌, ◌≤◌, ◌<◌, ◌+◌, ◌*
 ghost use Rattle.plane.specs.Narrow.{IsNearZero};
 ghost use Rattle.touching.specs.Core.{line};
 ghost use Rattle.hulls.specs.Hulls.{cut_at as place_of, piece_count as count_of, piece_hull as hull_of_piece, is_slanted as slants, hulls_of};
-ghost use Rattle.hulls.specs.Laws.{spot};
-ghost use Rattle.copper_shape.specs.Ranges.{IsWithin, IsPlace};
+ghost use Rattle.cores.specs.Room.{IsInRoom, spot};
+ghost use Rattle.copper_shape.specs.Ranges.{IsPlace};
 
 use crate::cells::hull;
 use grid_num::{Memory, Point};
@@ -13,8 +13,8 @@ use std::alloc::Global;
 
 // The hulls of the segment with a radius, all in halves.
 pub fn segment_hulls(alloc: Global, from: Point, to: Point, radius: u32) -> Result<Vec<Oct>, Memory>
-    requires from { IsWithin 2000000000 from }
-    requires to { IsWithin 2000000000 to }
+    requires from { IsInRoom 2000000000 from }
+    requires to { IsInRoom 2000000000 to }
     requires radius { radius ≤ 2000000000 }
     ensures { IfOk result (λ hulls. hulls.items ≡ hulls_of (line (spot from) (spot to)) radius) }
 {
@@ -28,8 +28,8 @@ pub fn segment_hulls(alloc: Global, from: Point, to: Point, radius: u32) -> Resu
 
 // The octagon of the piece from the i-th place to the next.
 fn piece_hull(alloc: Global, from: Point, to: Point, count: u32, radius: u32, i: u32) -> Result<Oct, Memory>
-    requires from { IsWithin 2000000000 from }
-    requires to { IsWithin 2000000000 to }
+    requires from { IsInRoom 2000000000 from }
+    requires to { IsInRoom 2000000000 to }
     requires radius { radius ≤ 2000000000 }
     requires count { count ≤ 64 }
     requires i { i < count }
@@ -42,8 +42,8 @@ fn piece_hull(alloc: Global, from: Point, to: Point, count: u32, radius: u32, i:
 
 // The i-th of the places that cut the segment into so many equal pieces, times their number.
 fn cut_at(from: Point, to: Point, count: u32, i: u32) -> Point
-    requires from { IsWithin 2000000000 from }
-    requires to { IsWithin 2000000000 to }
+    requires from { IsInRoom 2000000000 from }
+    requires to { IsInRoom 2000000000 to }
     requires count { count ≤ 64 }
     requires i { i ≤ count }
     ensures value { result ≡ place_of (spot from) (spot to) count i }

@@ -6,7 +6,7 @@ use Rattle.plane.specs.Narrow.{IsNearZero}
 use Rattle.grid_num.specs.declared.Point.{Point}
 use Rattle.hulls.specs.Cells.{cells_of}
 use Rattle.hulls.specs.Hulls.{hull_of}
-use Rattle.copper_shape.specs.Ranges.{IsWithin}
+use Rattle.cores.specs.Room.{IsInRoom}
 use Rattle.copper_shape.proofs.CellLists.{cells_near, cells_some, near_reach, hull_room, code_hull}
 use Rattle.copper_shape.proofs.cells.hull.Goals as goal
 

@@ -1,6 +1,6 @@
 use Rattle.std.proofs.Common.{arith, refl}
 use Rattle.std.proofs.lemmas.Int.{ints}
-use Rattle.hulls.specs.Laws.{spot}
+use Rattle.cores.specs.Room.{spot}
 use Rattle.copper_shape.proofs.Cuts.{code_cut}
 use Rattle.copper_shape.proofs.pieces.cut_at.Goals as goal
 

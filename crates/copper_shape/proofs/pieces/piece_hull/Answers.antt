@@ -1,6 +1,6 @@
 use Rattle.std.proofs.Common.{◌≡◌, subst, IfOk}
 use Rattle.plane.specs.Plane.{Bounds}
-use Rattle.hulls.specs.Laws.{spot}
+use Rattle.cores.specs.Room.{spot}
 use Rattle.copper_shape.proofs.Cuts.{code_piece}
 use Rattle.copper_shape.proofs.pieces.piece_hull.Goals as goal
 

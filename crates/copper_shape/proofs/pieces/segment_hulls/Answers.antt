@@ -1,6 +1,6 @@
 use Rattle.std.proofs.Common.{arith}
 use Rattle.std.proofs.lemmas.Int.{ints}
-use Rattle.hulls.specs.Laws.{spot}
+use Rattle.cores.specs.Room.{spot}
 use Rattle.copper_shape.proofs.Cuts.{pieces_step, pieces_end, code_segment}
 use Rattle.copper_shape.proofs.pieces.segment_hulls.Goals as goal
 

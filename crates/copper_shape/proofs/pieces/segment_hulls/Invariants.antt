@@ -1,6 +1,6 @@
 use Rattle.std.proofs.Common.{◌≡◌, ◌++◌, ◌-◌}
 use Rattle.hulls.specs.Hulls.{piece_hulls}
-use Rattle.hulls.specs.Laws.{spot}
+use Rattle.cores.specs.Room.{spot}
 use Rattle.copper_shape.proofs.pieces.segment_hulls.Given as goal
 
 abbrev pub invariant-each : goal.invariant-each
