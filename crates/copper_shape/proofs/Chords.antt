@@ -5,12 +5,13 @@ use Rattle.std.specs.Int.RustNames.{unsigned_abs}
 use Rattle.std.proofs.lemmas.Int.{ints}
 use Rattle.std.proofs.Math.Nat.{mul-le-mul}
 use Rattle.grid_num.specs.declared.Point.{Point}
-use Rattle.plane.specs.Plane.{Bounds, box_of, least_root}
+use Rattle.plane.specs.Plane.{PlanePoint, Bounds, box_of, least_root}
 use Rattle.covering.specs.Corners.{corners_of}
-use Rattle.touching.specs.Core.{Core, Spot, area, line}
+use Rattle.touching.specs.Core.{Core, Spot, area, line, OnLine}
 use Rattle.hulls.specs.Hulls.{chord_of, hull_of, hulls_of, edge_core, edge_radius, edge_hulls_of, in_halves}
-use Rattle.hulls.proofs.Edges.{root_reaches, root_least}
-use Rattle.cores.specs.Room.{IsInRoom}
+use Rattle.hulls.specs.Laws.{InSome, InChordDisc, nm_in_units}
+use Rattle.hulls.proofs.Edges.{root_reaches, root_least, segment_law, chord_disc_law}
+use Rattle.cores.specs.Room.{IsInRoom, spot}
 
 pub far_apart : (a b : ℤ) → IsInRoom 500000000 (record { x = a; y = b }) → unsigned_abs (a -ℤ b) ≤ 1000000000
 far_apart a b h = omega (arith, ints, h.x, h.y)
@@ -52,3 +53,12 @@ line_radius a b r e = e
 pub edge_is : (a b : Point) (bow : Bool) (c : Core) (r : ℕ) → c ≡ edge_core a b bow → r ≡ edge_radius a b bow → hulls_of c r ≡ edge_hulls_of a b bow
 unfolding edge_hulls_of
 edge_is a b bow c r ec er = rw (ec, er) refl
+
+-- ---- the edge is in its hulls
+pub holds_segment : (a b : Point) (bow : Bool) (hulls : List Bounds) → hulls ≡ edge_hulls_of a b bow → bow ≡ false → (p : PlanePoint)
+    → OnLine (spot a) (spot b) p → InSome hulls (nm_in_units p)
+holds_segment a b bow hulls e f p on = rw (e, f) (segment_law a b p on)
+
+pub holds_disc : (a b : Point) (bow : Bool) (hulls : List Bounds) → hulls ≡ edge_hulls_of a b bow → bow ≡ true → (p : PlanePoint)
+    → InChordDisc a b p → InSome hulls (nm_in_units p)
+holds_disc a b bow hulls e f p i = rw (e, f) (chord_disc_law a b p i)

@@ -3,3 +3,4 @@ pub mod CellLists
 pub mod Cuts
 pub mod Chords
 pub mod Within
+pub mod Areas
