@@ -15,6 +15,8 @@ mod cells;
 mod edge;
 mod make;
 mod pieces;
+#[cfg(test)]
+mod tests;
 
 use cores::{Core, Kind};
 pub use edge::{Edge, edge_hulls};

@@ -37,8 +37,9 @@ impl Shape {
         requires within { IsBoxWithin 2000000000 center hx hy }
         requires radius { radius ≤ 2000000000 }
         ensures { result ≡ record {
-            core = area (box_of (center.x -ℤ pos hx) (center.x +ℤ pos hx) (center.y -ℤ pos hy) (center.y +ℤ pos hy));
-            radius = radius } }
+          core = area (box_of (center.x -ℤ pos hx) (center.x +ℤ pos hx) (center.y -ℤ pos hy) (center.y +ℤ pos hy));
+          radius = radius;
+        } }
     {
         let least = Point {
             x: center.x - hx as i64,

@@ -27,7 +27,14 @@ pub fn segment_hulls(alloc: Global, from: Point, to: Point, radius: u32) -> Resu
 }
 
 // The octagon of the piece from the i-th place to the next.
-fn piece_hull(alloc: Global, from: Point, to: Point, count: u32, radius: u32, i: u32) -> Result<Oct, Memory>
+fn piece_hull(
+    alloc: Global,
+    from: Point,
+    to: Point,
+    count: u32,
+    radius: u32,
+    i: u32,
+) -> Result<Oct, Memory>
     requires from { IsInRoom 2000000000 from }
     requires to { IsInRoom 2000000000 to }
     requires radius { radius ≤ 2000000000 }

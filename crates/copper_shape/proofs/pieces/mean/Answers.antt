@@ -12,6 +12,6 @@ overflow_add-result c =
 pub returns : goal.returns
 returns c =
     let r = code_mean c.args.i c.args.j c.args.s c.args.t (to_z w64 c.args.i) (to_z w64 (of_z w64 c.args.s)) (to_z w64 c.args.j) (to_z w64 (of_z w64 c.args.t))
-        (omega (arith, ints)) (omega (arith, ints, c.requires.s)) (omega (arith, ints)) (omega (arith, ints, c.requires.t))
-        c.requires.weights c.requires.s c.requires.t in
+    (omega (arith, ints)) (omega (arith, ints, c.requires.s)) (omega (arith, ints)) (omega (arith, ints, c.requires.t))
+    c.requires.weights c.requires.s c.requires.t in
     record { value = r.value; near = r.near }
