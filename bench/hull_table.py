@@ -70,9 +70,7 @@ def main():
         count = pieces(start, end)
         number = [0, count // 2, count - 1][turn % 3]
         bounds = hull(start, end, radius, number, count)
-        ends = f"({start[0]:_}, {start[1]:_}), ({end[0]:_}, {end[1]:_})"
-        listed = ", ".join(f"{value:_}" for value in bounds)
-        print(f"    ({ends}, {radius:_}, {count}, {number}, [{listed}]),")
+        print(*start, *end, radius, count, number, *bounds)
 
 
 main()
