@@ -1,5 +1,5 @@
 -- The corners of an area, and its hull.
-use Rattle.std.proofs.Common.{◌≡◌, refl, sym, subst, ap, ◌∙◌, ℕ, ◌≤◌, ◌<◌, arith, Result, Ok, Err, IfOk, w64, to_z, of_z, FitsSigned, List, [], ◌∷◌, length}
+use Rattle.std.proofs.Common.{◌≡◌, refl, sym, subst, ap, ◌∙◌, ℕ, ◌+◌, ◌*◌, ◌≤◌, ◌<◌, arith, Result, Ok, Err, IfOk, w64, to_z, of_z, FitsSigned, List, [], ◌∷◌, length}
 use Rattle.std.specs.Prelude.{ℤ, pos, neg_ℤ, ◌+ℤ◌, ◌-ℤ◌, ◌*ℤ◌, ◌≤ℤ◌, Any}
 use Rattle.std.specs.List.{All}
 use Rattle.std.proofs.lemmas.Int.{ints}
@@ -15,21 +15,20 @@ use Rattle.copper_shape.specs.Shapes.{IsLineWithin, IsCoreWithin}
 use Rattle.hulls.specs.Hulls.{hull_of, hulls_of, in_units}
 use Rattle.hulls.specs.Laws.{InSome}
 use Rattle.hulls.proofs.Copper.{copper_law}
-use Rattle.copper_shape.specs.Ranges.{IsPlace}
 
--- all eight bounds of a tight area that lies near 0
-pub record IsNearArea (b : Bounds) : Type 0 where
-  pub x0 : IsNearZero 2000000000 b.x0
-  pub x1 : IsNearZero 2000000000 b.x1
-  pub y0 : IsNearZero 2000000000 b.y0
-  pub y1 : IsNearZero 2000000000 b.y1
-  pub s0 : IsNearZero 4000000000 b.s0
-  pub s1 : IsNearZero 4000000000 b.s1
-  pub d0 : IsNearZero 4000000000 b.d0
-  pub d1 : IsNearZero 4000000000 b.d1
+-- all eight bounds of a tight area that lies within m of 0
+pub record IsNearArea (m : ℕ) (b : Bounds) : Type 0 where
+  pub x0 : IsNearZero m b.x0
+  pub x1 : IsNearZero m b.x1
+  pub y0 : IsNearZero m b.y0
+  pub y1 : IsNearZero m b.y1
+  pub s0 : IsNearZero (m + m) b.s0
+  pub s1 : IsNearZero (m + m) b.s1
+  pub d0 : IsNearZero (m + m) b.d0
+  pub d1 : IsNearZero (m + m) b.d1
 
-pub near_area : (b : Bounds) → IsTight b → IsAround 2000000000 b → IsNearArea b
-near_area b t h =
+pub near_area : (m : ℕ) (b : Bounds) → IsTight b → IsAround m b → IsNearArea m b
+near_area m b t h =
     let across : b.x0 ≤ℤ b.x1 = omega (arith, ints, t.top_left, t.top, t.top_right) in
     let along : b.y0 ≤ℤ b.y1 = omega (arith, ints, t.top, t.top_right, t.right, t.bottom_right) in
     record {
@@ -55,21 +54,21 @@ all_eight P a b c d e f g h pa pb pc pd pe pf pg ph =
     (All-cons P g (h ∷ []) pg
     (All-cons P h [] ph (All-nil P))))))))
 
-place : (x y : ℤ) → IsNearZero 2000000000 x → IsNearZero 2000000000 y → IsPlace 4 (record { x = x; y = y })
-place x y h k = record { x = h; y = k }
+place : (m : ℕ) (x y : ℤ) → IsNearZero m x → IsNearZero m y → IsInRoom m (record { x = x; y = y })
+place m x y h k = record { x = h; y = k }
 
-pub corner_places : (b : Bounds) → IsTight b → IsAround 2000000000 b → All (IsPlace 4) (corners_of b)
-corner_places b t h =
-    let n = near_area b t h in
-    all_eight (IsPlace 4) _ _ _ _ _ _ _ _
-    (place (b.s0 -ℤ b.y0) b.y0 (record { low = omega (arith, ints, t, n); high = omega (arith, ints, t, n) }) n.y0)
-    (place (b.d1 +ℤ b.y0) b.y0 (record { low = omega (arith, ints, t, n); high = omega (arith, ints, t, n) }) n.y0)
-    (place b.x1 (b.x1 -ℤ b.d1) n.x1 (record { low = omega (arith, ints, t, n); high = omega (arith, ints, t, n) }))
-    (place b.x1 (b.s1 -ℤ b.x1) n.x1 (record { low = omega (arith, ints, t, n); high = omega (arith, ints, t, n) }))
-    (place (b.s1 -ℤ b.y1) b.y1 (record { low = omega (arith, ints, t, n); high = omega (arith, ints, t, n) }) n.y1)
-    (place (b.d0 +ℤ b.y1) b.y1 (record { low = omega (arith, ints, t, n); high = omega (arith, ints, t, n) }) n.y1)
-    (place b.x0 (b.x0 -ℤ b.d0) n.x0 (record { low = omega (arith, ints, t, n); high = omega (arith, ints, t, n) }))
-    (place b.x0 (b.s0 -ℤ b.x0) n.x0 (record { low = omega (arith, ints, t, n); high = omega (arith, ints, t, n) }))
+pub corner_places : (m : ℕ) (b : Bounds) → IsTight b → IsAround m b → All (IsInRoom m) (corners_of b)
+corner_places m b t h =
+    let n = near_area m b t h in
+    all_eight (IsInRoom m) _ _ _ _ _ _ _ _
+    (place m (b.s0 -ℤ b.y0) b.y0 (record { low = omega (arith, ints, t, n); high = omega (arith, ints, t, n) }) n.y0)
+    (place m (b.d1 +ℤ b.y0) b.y0 (record { low = omega (arith, ints, t, n); high = omega (arith, ints, t, n) }) n.y0)
+    (place m b.x1 (b.x1 -ℤ b.d1) n.x1 (record { low = omega (arith, ints, t, n); high = omega (arith, ints, t, n) }))
+    (place m b.x1 (b.s1 -ℤ b.x1) n.x1 (record { low = omega (arith, ints, t, n); high = omega (arith, ints, t, n) }))
+    (place m (b.s1 -ℤ b.y1) b.y1 (record { low = omega (arith, ints, t, n); high = omega (arith, ints, t, n) }) n.y1)
+    (place m (b.d0 +ℤ b.y1) b.y1 (record { low = omega (arith, ints, t, n); high = omega (arith, ints, t, n) }) n.y1)
+    (place m b.x0 (b.x0 -ℤ b.d0) n.x0 (record { low = omega (arith, ints, t, n); high = omega (arith, ints, t, n) }))
+    (place m b.x0 (b.s0 -ℤ b.x0) n.x0 (record { low = omega (arith, ints, t, n); high = omega (arith, ints, t, n) }))
 
 -- ---- the corners as the code computes them
 abbrev code_read : ℤ → ℤ
@@ -114,7 +113,7 @@ pub record AreWide (b : Bounds) : Type 0 where
 
 pub are_wide : (b : Bounds) → IsTight b → IsAround 2000000000 b → AreWide b
 are_wide b t h =
-    let n = near_area b t h in
+    let n = near_area 2000000000 b t h in
     record { x0 = wide b.x0 n.x0; x1 = wide b.x1 n.x1; y0 = wide b.y0 n.y0; y1 = wide b.y1 n.y1; s0 = n.s0; s1 = n.s1; d0 = n.d0; d1 = n.d1 }
 
 abbrev pub code_corners : Bounds → List Point

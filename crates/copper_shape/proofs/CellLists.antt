@@ -38,20 +38,20 @@ cells_end n i places out h e =
 all_four : {X : Type 0} (P : X → Type 0) (a b c d : X) → P a → P b → P c → P d → All P (a ∷ b ∷ c ∷ d ∷ [])
 all_four P a b c d ha hb hc hd = All-cons P a (b ∷ c ∷ d ∷ []) ha (All-cons P b (c ∷ d ∷ []) hb (All-cons P c (d ∷ []) hc (All-cons P d [] hd (All-nil P))))
 
-cell_near : (n : ℕ) (p : Point) → 1 ≤ n → IsPlace n p → All (IsInRoom 500000000) (cell_of n p)
+cell_near : (n m : ℕ) (p : Point) → 1 ≤ n → IsInRoom (n * m) p → All (IsInRoom m) (cell_of n p)
 unfolding cell_of
-cell_near n p one h =
-    let west = low_near n 500000000 p.x one h.x in
-    let east = high_near n 500000000 p.x one h.x in
-    let north = low_near n 500000000 p.y one h.y in
-    let south = high_near n 500000000 p.y one h.y in
-    all_four (IsInRoom 500000000) _ _ _ _ (record { x = west; y = north }) (record { x = east; y = north }) (record { x = west; y = south }) (record { x = east; y = south })
+cell_near n m p one h =
+    let west = low_near n m p.x one h.x in
+    let east = high_near n m p.x one h.x in
+    let north = low_near n m p.y one h.y in
+    let south = high_near n m p.y one h.y in
+    all_four (IsInRoom m) _ _ _ _ (record { x = west; y = north }) (record { x = east; y = north }) (record { x = west; y = south }) (record { x = east; y = south })
 
-pub cells_near : (n : ℕ) (ps : List Point) → 1 ≤ n → All (IsPlace n) ps → All (IsInRoom 500000000) (cells_of n ps)
+pub cells_near : (n m : ℕ) (ps : List Point) → 1 ≤ n → All (IsInRoom (n * m)) ps → All (IsInRoom m) (cells_of n ps)
 unfolding cells_of
-cells_near n [] one h = All-nil (IsInRoom 500000000)
-cells_near n (p ∷ ps) one h =
-    All-append (IsInRoom 500000000) (cell_of n p) (cells_of n ps) (cell_near n p one (All-head (IsPlace n) p ps h)) (cells_near n ps one (All-tail (IsPlace n) p ps h))
+cells_near n m [] one h = All-nil (IsInRoom m)
+cells_near n m (p ∷ ps) one h =
+    All-append (IsInRoom m) (cell_of n p) (cells_of n ps) (cell_near n m p one (All-head (IsInRoom (n * m)) p ps h)) (cells_near n m ps one (All-tail (IsInRoom (n * m)) p ps h))
 
 pub cells_some : (n : ℕ) (ps : List Point) → 0 < length ps → 0 < length (cells_of n ps)
 unfolding cells_of cell_of
@@ -111,7 +111,7 @@ pub hull_room : (n : ℕ) (corners : List Point) (radius : ℕ) (cells : List Po
     → a ≡ div_ceil radius 4 → ball ≡ ball_of a → HasRoom (sum_of r ball)
 hull_room n corners radius cells r a ball l one places m e h f o ea eb =
     rw (around_cells n corners cells r l e h f o, eb, ea)
-    (room (cells_of n corners) (div_ceil radius 4) (cells_some n corners l) (cells_near n corners one places) (quarter_most radius m))
+    (room (cells_of n corners) (div_ceil radius 4) (cells_some n corners l) (cells_near n 500000000 corners one places) (quarter_most radius m))
 
 pub near_reach : (ps : List Point) → All (IsInRoom 500000000) ps → All IsInReach ps
 near_reach ps h k d l =

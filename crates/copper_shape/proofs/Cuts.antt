@@ -14,7 +14,7 @@ use Rattle.hulls.specs.Hulls.{hull_of, cut_at, is_slanted, piece_count, piece_hu
 use Rattle.cores.specs.Room.{IsInRoom}
 use Rattle.copper_shape.specs.Ranges.{IsPlace}
 
-product_near : (i m : ℕ) (s : ℤ) → IsNearZero m s → IsNearZero (i * m) (pos i *ℤ s)
+pub product_near : (i m : ℕ) (s : ℤ) → IsNearZero m s → IsNearZero (i * m) (pos i *ℤ s)
 product_near i m s h = record {
   low = omega (arith, ints, mul_le i (neg_ℤ (pos m)) s h.low, mul_neg i (pos m));
   high = omega (arith, ints, mul_le i s (pos m) h.high);

@@ -4,3 +4,4 @@ pub mod Cuts
 pub mod Chords
 pub mod Within
 pub mod Areas
+pub mod Reach

@@ -1,6 +1,8 @@
 // Board edges, and the hulls of segments and of the discs on the chords of arcs.
 ghost use Rattle.std.specs.Prelude.{◌≡◌, ℕ, ◌*◌, ◌^◌, ◌≤◌, ◌<◌, ◌+ℤ◌, false, true, IfOk};
+ghost use Rattle.std.specs.List.{All};
 ghost use Rattle.plane.specs.Plane.{PlanePoint};
+ghost use Rattle.octagon.specs.Room.{IsAround};
 ghost use Rattle.touching.specs.Core.{OnLine};
 ghost use Rattle.hulls.specs.Hulls.{chord_of, edge_core, edge_radius, edge_hulls_of, in_halves, corner};
 ghost use Rattle.hulls.specs.Laws.{InSome, InChordDisc, nm_in_units};
@@ -30,6 +32,7 @@ pub fn edge_hulls(alloc: Global, edge: &Edge) -> Result<Vec<Oct>, Memory>
         → OnLine (spot edge.now.from) (spot edge.now.to) p → InSome hulls.items (nm_in_units p)) }
     ensures disc { IfOk result (λ hulls. edge.now.bow ≡ true → (p : PlanePoint)
         → InChordDisc edge.now.from edge.now.to p → InSome hulls.items (nm_in_units p)) }
+    ensures reach { IfOk result (λ hulls. All (IsAround 1000000000) hulls.items) }
 {
     copper_of(edge).hulls(alloc)
 }

@@ -3,12 +3,16 @@
 //! Cores and radii are in halves of a nanometre, hulls in units of the grid (2 nm), board edges in nanometres.
 #![tactic(auto)]
 
-ghost use Rattle.std.specs.Prelude.{◌≡◌, ◌≤◌, IfOk};
-ghost use Rattle.plane.specs.Plane.{PlanePoint};
-ghost use Rattle.touching.specs.Core.{InCopper};
+ghost use Rattle.std.specs.Prelude.{◌≡◌, ℤ, length, IfOk};
+ghost use Rattle.std.specs.List.{All};
+ghost use Rattle.plane.specs.Plane.{PlanePoint, Within, grid_point};
+ghost use Rattle.octagon.specs.Room.{IsAround};
+ghost use Rattle.touching.specs.Core.{InCore, InCopper};
+ghost use Rattle.hulls.specs.Cells.{floor_of};
 ghost use Rattle.hulls.specs.Hulls.{hulls_of, in_units};
-ghost use Rattle.hulls.specs.Laws.{InSome};
+ghost use Rattle.hulls.specs.Laws.{InSome, IsPad};
 ghost use Rattle.copper_shape.specs.Shapes.{IsShape};
+ghost use Rattle.copper_shape.specs.Laws.{ReachLaw};
 
 mod area;
 mod cells;
@@ -62,12 +66,16 @@ impl Shape {
         self.radius
     }
 
-    /// The hulls: octagons that hold every point of the copper. There is one, or one of each piece of a slanted track.
-    /// Refuses for want of memory alone.
+    /// The hulls: octagons that hold every point of the copper. There is one, or one of each piece of a slanted track;
+    /// that of a pad holds the pad's centre, rounded down. Refuses for want of memory alone.
     pub fn hulls(&self, alloc: Global) -> Result<Vec<Oct>, Memory>
         ensures value { IfOk result (λ hulls. hulls.items ≡ hulls_of self.now.core self.now.radius) }
         ensures copper { IfOk result (λ hulls. (p : PlanePoint)
             → InCopper self.now.core self.now.radius p → InSome hulls.items (in_units p)) }
+        ensures pad { IfOk result (λ hulls. IsPad self.now.core → length hulls.items ≡ 1) }
+        ensures centre { IfOk result (λ hulls. IsPad self.now.core → (x y : ℤ) → InCore self.now.core (grid_point x y)
+            → All (λ h. Within h (floor_of 4 x) (floor_of 4 y)) hulls.items) }
+        ensures reach { IfOk result (λ hulls. All (IsAround 1000000000) hulls.items) }
     {
         hulls_of(alloc, &self.core, self.radius)
     }
@@ -83,3 +91,8 @@ fn hulls_of(alloc: Global, core: &Core, radius: u32) -> Result<Vec<Oct>, Memory>
         Kind::Area(bounds) => area::area_hulls(alloc, &bounds, radius),
     }
 }
+
+/// The hulls of a core within m units of 0, with a radius of at most a units, lie within m + a units of 0.
+pub fn reach_law()
+    ensures { ReachLaw }
+{}

@@ -79,6 +79,7 @@ fn a_via_has_one_round_hull(rt: HostRuntime) -> Result<(), Fail> {
         600_000,
     );
     let hulls = moved.hulls(rt.alloc())?;
+    assert_eq!(rt; hulls.len(), 1);
     assert_eq!(rt;
         bounds(&hulls[0]),
         [
@@ -208,7 +209,10 @@ fn hulls_are_those_of_exact_fractions(rt: HostRuntime) -> Result<(), Fail> {
 fn pads_are_made_of_cores_and_radii(rt: HostRuntime) -> Result<(), Fail> {
     // a pad of 2 mm by 1 mm at (5 5), lengths in halves: as rect, as oval, and as roundrect of ratio 0.25, whose
     // radius is 2 * 1,000,000 / 4
-    let center = at(500, 500);
+    let center = Point {
+        x: 10_000_000,
+        y: 10_000_000,
+    };
     let rect = Shape::box_round(center, 2_000_000, 1_000_000, 0);
     let hulls = rect.hulls(rt.alloc())?;
     assert_eq!(rt; hulls.len(), 1);

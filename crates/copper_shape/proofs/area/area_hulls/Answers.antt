@@ -2,7 +2,7 @@ use Rattle.copper_shape.proofs.Areas.{corner_places, area_is}
 use Rattle.copper_shape.proofs.area.area_hulls.Goals as goal
 
 pub hull-requires-clause-places : goal.hull-requires-clause-places
-hull-requires-clause-places c = rw c.corners.ensures (corner_places c.args.bounds.now c.requires.tight c.requires.within)
+hull-requires-clause-places c = rw c.corners.ensures (corner_places 2000000000 c.args.bounds.now c.requires.tight c.requires.within)
 
 pub returns : goal.returns
 returns c =

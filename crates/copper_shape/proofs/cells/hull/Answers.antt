@@ -16,7 +16,7 @@ of_points-around-requires-clause-some c = rw (c.as_slice.ensures.value, c.in_ok-
 pub of_points-around-requires-clause-reach : goal.of_points-around-requires-clause-reach
 of_points-around-requires-clause-reach c =
     rw (c.as_slice.ensures.value, c.in_ok-cells.ensures)
-    (near_reach (cells_of c.args.n c.args.corners.now) (cells_near c.args.n c.args.corners.now c.requires.scale.0 c.requires.places))
+    (near_reach (cells_of c.args.n c.args.corners.now) (cells_near c.args.n 500000000 c.args.corners.now c.requires.scale.0 c.requires.places))
 
 pub sum-requires : goal.sum-requires
 sum-requires c =

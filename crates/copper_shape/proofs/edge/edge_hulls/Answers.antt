@@ -11,4 +11,5 @@ returns c =
       value = if_ok _ _ c.hulls.result (λ hulls is. is ∙ same) c.hulls.ensures.value;
       segment = if_ok _ _ c.hulls.result (λ hulls is. holds_segment e.from e.to e.bow hulls.items (is ∙ same)) c.hulls.ensures.value;
       disc = if_ok _ _ c.hulls.result (λ hulls is. holds_disc e.from e.to e.bow hulls.items (is ∙ same)) c.hulls.ensures.value;
+      reach = c.hulls.ensures.reach;
     }
