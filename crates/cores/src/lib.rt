@@ -11,6 +11,8 @@ ghost use Rattle.cores.specs.Kinds.{core_of};
 
 mod area;
 mod kind;
+mod line;
+mod number;
 
 pub use area::Area;
 use grid_num::Point;
