@@ -1,6 +1,7 @@
 -- Numbers as the code reads them, and how far products reach.
-use Rattle.std.proofs.Common.{◌≡◌, ℕ, ◌≤◌, ◌+◌, ◌*◌, arith, ap, w64, to_z, of_z, FitsSigned, ◌∙◌}
-use Rattle.std.specs.Prelude.{ℤ, pos, negsuc, neg_ℤ, ◌+ℤ◌, ◌-ℤ◌, ◌*ℤ◌, ◌≤ℤ◌}
+use Rattle.std.proofs.Common.{◌≡◌, refl, ℕ, ◌≤◌, ◌+◌, ◌*◌, arith, ap, w64, to_z, of_z, FitsSigned, ◌∙◌}
+use Rattle.std.specs.Prelude.{ℤ, pos, negsuc, ◌+ℤ◌, ◌-ℤ◌, ◌*ℤ◌, ◌≤ℤ◌, ◌↔◌, IsTrue, Bool, true, false, T}
+use Rattle.std.specs.Int.Signed.{le_z}
 use Rattle.std.proofs.lemmas.Int.{ints, to_z-of_z}
 use Rattle.std.proofs.Math.Nat.{mul-le-mul_right}
 use mir.Syntax.{w128}
@@ -95,3 +96,50 @@ reach_value a l h k =
   where
     whole : (a : ℕ) → a ≤ 160000000000000000 → to_z w128 a ≡ pos a
     whole a h = omega (arith, ints)
+
+-- sums and differences of small numbers
+pub plain_add : (a b : ℤ) → IsNearZero 2400000000 a → IsNearZero 2400000000 b → r64 (r64 a +ℤ r64 b) ≡ a +ℤ b
+plain_add a b h k = omega (arith, ints, h.low, h.high, k.low, k.high)
+
+pub plain_sub : (a b : ℤ) → IsNearZero 2400000000 a → IsNearZero 2400000000 b → r64 (r64 a -ℤ r64 b) ≡ a -ℤ b
+plain_sub a b h k = omega (arith, ints, h.low, h.high, k.low, k.high)
+
+pub add_fits : (a b : ℤ) → IsNearZero 2400000000 a → IsNearZero 2400000000 b → FitsSigned w64 (r64 a +ℤ r64 b)
+add_fits a b h k = omega (arith, ints, h.low, h.high, k.low, k.high)
+
+-- bounds of steps, and the lengths that the tests of sides take
+pub near_read : (n m : ℕ) (a : ℤ) → n ≤ m → m ≤ 14400000000 → IsNearZero n a → IsNearZero m (r64 a)
+near_read n m a l w h = record { low = omega (arith, ints, h.low, h.high); high = omega (arith, ints, h.low, h.high) }
+
+pub wide_same : (a : ℤ) → IsNearZero 4800000000 a → r64 a ≡ a
+wide_same a h = omega (arith, ints, h.low, h.high)
+
+pub wide_add : (a b : ℤ) → IsNearZero 4800000000 a → IsNearZero 4800000000 b → r64 (r64 a +ℤ r64 b) ≡ a +ℤ b
+wide_add a b h k = omega (arith, ints, h.low, h.high, k.low, k.high)
+
+pub wide_sub : (a b : ℤ) → IsNearZero 4800000000 a → IsNearZero 4800000000 b → r64 (r64 a -ℤ r64 b) ≡ a -ℤ b
+wide_sub a b h k = omega (arith, ints, h.low, h.high, k.low, k.high)
+
+pub beyond_read : (r a b : ℤ) → IsNearZero 2400000000 a → IsNearZero 2400000000 b → r ≡ r64 a -ℤ r64 b → r64 r ≡ a -ℤ b
+beyond_read r a b h k e = omega (arith, ints, h.low, h.high, k.low, k.high, e)
+
+pub twice_less_read : (r a b : ℤ) → IsNearZero 4800000000 a → IsNearZero 4800000000 b → r ≡ r64 a +ℤ r64 a -ℤ r64 b → r64 r ≡ a +ℤ a -ℤ b
+twice_less_read r a b h k e = omega (arith, ints, h.low, h.high, k.low, k.high, e)
+
+pub less_twice_read : (r a b : ℤ) → IsNearZero 4800000000 a → IsNearZero 4800000000 b → r ≡ r64 a -ℤ (r64 b +ℤ r64 b) → r64 r ≡ a -ℤ (b +ℤ b)
+less_twice_read r a b h k e = omega (arith, ints, h.low, h.high, k.low, k.high, e)
+
+pub twice_more_read : (r a b : ℤ) → IsNearZero 4800000000 a → IsNearZero 4800000000 b → r ≡ r64 a +ℤ r64 a +ℤ r64 b → r64 r ≡ a +ℤ a +ℤ b
+twice_more_read r a b h k e = omega (arith, ints, h.low, h.high, k.low, k.high, e)
+
+-- the squared length to a place
+pub place_le : (a : ℕ) (p q x y : ℤ) → a ≤ 320000000000000000 → pos 0 ≤ℤ p → p ≤ℤ pos 207360000000000000000 → pos 0 ≤ℤ q → q ≤ℤ pos 207360000000000000000
+    → p ≡ x → q ≡ y → IsTrue (le_z (r128 (r128 p +ℤ r128 q)) (to_z w128 a)) ↔ ((x +ℤ y) ≤ℤ pos a)
+place_le a p q x y ha pl ph ql qh ep eq = (λ z. omega (arith, ints, z, ep, eq, pl, ph, ql, qh, ha), λ h. is_true _ (fits h).le)
+  where
+    is_true : (b : Bool) → T b → b ≡ true
+    is_true true h = refl
+    is_true false h = absurd h
+
+    fits : (x +ℤ y) ≤ℤ pos a → r128 (r128 p +ℤ r128 q) ≤ℤ to_z w128 a
+    fits h = omega (arith, ints, h, ep, eq, pl, ph, ql, qh, ha)
