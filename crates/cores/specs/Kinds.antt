@@ -1,9 +1,7 @@
 -- What the code keeps of a core, as the core.
 use Rattle.std.specs.Prelude.{◌≡◌, refl}
-use Rattle.plane.specs.Plane.{Bounds}
-use Rattle.touching.specs.Core.{Spot, Core, area, line}
+use Rattle.touching.specs.Core.{Core, area, line}
 use Rattle.cores.specs.Room.{spot}
-use Rattle.grid_num.specs.declared.Point.{Point}
 use Rattle.cores.specs.declared.kind.Kind.{Kind}
 use Rattle.cores.specs.declared.kind.Kind.TheVariants.{Area, Line}
 

@@ -3,16 +3,25 @@
 //! A coordinate is half a nanometre; `dist_sq` serves any unit.
 #![tactic(auto)]
 
-ghost use Rattle.std.specs.Prelude.{◌≡◌, ◌≤ℤ◌};
+ghost use Rattle.std.specs.Prelude.{◌≡◌, ◌↔◌, ◌≤◌, ◌*◌, ◌≤ℤ◌, IsTrue};
 ghost use Rattle.plane.specs.Plane.{times, box_of};
-ghost use Rattle.touching.specs.Core.{area, line, IsWhole};
-ghost use Rattle.cores.specs.Room.{IsInRoom, spot};
+ghost use Rattle.touching.specs.Core.{area, line, IsWhole, Touches};
+ghost use Rattle.cores.specs.Room.{IsInRoom, IsCoreInRoom, spot};
 ghost use Rattle.cores.specs.Kinds.{core_of};
 
 mod area;
+mod close;
+mod corners;
+mod distance;
 mod kind;
+mod line;
+mod number;
+mod sides;
+mod steps;
 
+use crate::close::are_close;
 pub use area::Area;
+pub use distance::dist_sq;
 use grid_num::Point;
 pub use kind::{Kind, Line};
 use octagon::Oct;
@@ -90,4 +99,26 @@ impl Core {
     {
         self.kind
     }
+
+    /// Whether some point of this core is at most the reach away from some point of the other. A distance of just the
+    /// reach counts. Copper of two cores touches where they are within the sum of its radii.
+    pub fn is_within(&self, other: &Core, reach: u32) -> bool
+        requires room { IsCoreInRoom 1200000000 self.now }
+        requires other_room { IsCoreInRoom 1200000000 other.now }
+        requires reach { reach ≤ 400000000 }
+        ensures { IsTrue result ↔ Touches reach self.now other.now }
+    {
+        let first = self.kind();
+        let second = other.kind();
+        are_close(square(reach), &first, &second)
+    }
+}
+
+// The square of a reach.
+fn square(reach: u32) -> u64
+    requires { reach ≤ 400000000 }
+    ensures value { result ≡ reach * reach }
+    ensures high { result ≤ 160000000000000000 }
+{
+    reach as u64 * reach as u64
 }
