@@ -1,1 +1,3 @@
 pub mod Core
+pub mod Decision
+pub mod Laws

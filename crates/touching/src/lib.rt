@@ -2,3 +2,22 @@
 //! The crates above use the definitions of `specs/` and the laws that the functions here state; nothing here runs.
 //! A coordinate is half a nanometre.
 #![tactic(auto)]
+
+ghost use Rattle.touching.specs.Laws.{DecisionLaw, OrderLaw, DistanceLaw};
+
+/// The decision on whole numbers holds for two cores exactly where some point of the one is within reach of some point of
+/// the other: lines, areas, and one of each.
+pub fn decision_law()
+    ensures { DecisionLaw }
+{}
+
+/// Touching has no order.
+pub fn order_law()
+    ensures { OrderLaw }
+{}
+
+/// The law of distances: two cores are within reach exactly where they meet, or where a corner of the one is within reach
+/// of a point of a side of the other.
+pub fn distance_law()
+    ensures { DistanceLaw }
+{}

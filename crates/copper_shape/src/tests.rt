@@ -1,0 +1,257 @@
+// What no clause says: hulls worked out by hand or by a script in exact fractions, and that shapes cross threads.
+ghost use Rattle.std.specs.Prelude.{◌≤◌, IfSome};
+ghost use Rattle.cores.specs.Room.{IsInRoom};
+
+use crate::{Edge, Shape, edge_hulls};
+use cores::Kind;
+use grid_num::Point;
+use octagon::Oct;
+use std::test::Fail;
+
+fn is_send_and_sync<T: Send + Sync>(_value: &T) {}
+
+// A place in halves, if it is within a metre of 0.
+fn place(x: i64, y: i64) -> Option<Point>
+    ensures { IfSome result (IsInRoom 2000000000) }
+{
+    if x.unsigned_abs() > 2_000_000_000 {
+        return None;
+    }
+    if y.unsigned_abs() > 2_000_000_000 {
+        return None;
+    }
+    Some(Point { x, y })
+}
+
+// A place in whole hundredths of a millimetre, in halves.
+fn at(x: i16, y: i16) -> Point
+    ensures { IsInRoom 1000000000 result }
+{
+    Point {
+        x: x as i64 * 20_000,
+        y: y as i64 * 20_000,
+    }
+}
+
+// A place in whole hundredths of a millimetre, in nanometres.
+fn nm(x: i16, y: i16) -> Point
+    ensures { IsInRoom 500000000 result }
+{
+    Point {
+        x: x as i64 * 10_000,
+        y: y as i64 * 10_000,
+    }
+}
+
+fn bounds(hull: &Oct) -> [i64; 8] {
+    [
+        hull.x0(),
+        hull.x1(),
+        hull.y0(),
+        hull.y1(),
+        hull.s0(),
+        hull.s1(),
+        hull.d0(),
+        hull.d1(),
+    ]
+}
+
+#[test]
+fn a_via_has_one_round_hull(rt: HostRuntime) -> Result<(), Fail> {
+    // size 0.6 mm at (5 5): the round of 150,000 units, whose slanted sides are at 212,133 since that squared is the
+    // first square from 45,000,000,000 on
+    let via = Shape::disc(at(500, 500), 600_000);
+    is_send_and_sync(&via);
+    let hulls = via.hulls(rt.alloc())?;
+    assert_eq!(rt; hulls.len(), 1);
+    assert_eq!(rt;
+        bounds(&hulls[0]),
+        [
+            2_350_000, 2_650_000, 2_350_000, 2_650_000, 4_787_867, 5_212_133, -212_133, 212_133
+        ]
+    );
+    // the same via 1 nm further to the right and 3 nm up, off the grid: its cell has four grid points
+    let moved = Shape::disc(
+        Point {
+            x: 10_000_002,
+            y: 9_999_994,
+        },
+        600_000,
+    );
+    let hulls = moved.hulls(rt.alloc())?;
+    assert_eq!(rt; hulls.len(), 1);
+    assert_eq!(rt;
+        bounds(&hulls[0]),
+        [
+            2_350_000, 2_650_001, 2_349_998, 2_649_999, 4_787_865, 5_212_133, -212_132, 212_136
+        ]
+    );
+    Ok(())
+}
+
+#[test]
+fn slanted_tracks_have_a_hull_for_each_piece(rt: HostRuntime) -> Result<(), Fail> {
+    // from (0 0), in hundredths of a millimetre: 0.2 mm of the longer side begin a piece, up to 64
+    for (x, y, count) in [
+        (200, 100, 10),
+        (-100, 200, 10),
+        (201, 100, 11),
+        (20, 10, 1),
+        (21, -10, 2),
+        (1260, 1, 63),
+        (1, -1270, 64),
+        (32767, 1, 64),
+        (500, 0, 1),
+        (0, -500, 1),
+        (500, 500, 1),
+        (-500, 500, 1),
+        (0, 0, 1),
+    ] {
+        let track = Shape::capsule(at(0, 0), at(x, y), 250_000);
+        let hulls = track.hulls(rt.alloc())?;
+        assert_eq!(rt; hulls.len(), count, "({x} {y})");
+    }
+    Ok(())
+}
+
+#[test]
+fn an_arc_of_the_board_edge_has_the_disc_on_its_chord(rt: HostRuntime) -> Result<(), Fail> {
+    // a corner of the board from (0 2) to (2 0) mm: the chord is 2,828,427.1 nm long, so the disc round (1 1) has a
+    // radius of 2,828,428 halves, or 707,107 units; its slanted sides are at 1,000,001
+    let arc = Edge {
+        from: nm(0, 200),
+        to: nm(200, 0),
+        bow: true,
+    };
+    is_send_and_sync(&arc);
+    let hulls = edge_hulls(rt.alloc(), &arc)?;
+    assert_eq!(rt; hulls.len(), 1);
+    assert_eq!(rt;
+        bounds(&hulls[0]),
+        [
+            -207_107, 1_207_107, -207_107, 1_207_107, -1, 2_000_001, -1_000_001, 1_000_001
+        ]
+    );
+    // the segment between the same ends has the one octagon that is just its points
+    let side = Edge { bow: false, ..arc };
+    let hulls = edge_hulls(rt.alloc(), &side)?;
+    assert_eq!(rt; hulls.len(), 1);
+    assert_eq!(rt;
+        bounds(&hulls[0]),
+        [
+            0, 1_000_000, 0, 1_000_000, 1_000_000, 1_000_000, -1_000_000, 1_000_000
+        ]
+    );
+    Ok(())
+}
+
+// Random segments, and some level, upright and slanted ones, made by bench/hull_table.py in exact fractions: ends and
+// radius in halves, how many hulls there are, the number of one of them, and its bounds in units.
+const SEGMENTS: &str = "\
+1 7 -9 -8 3 1 0 -4 2 -3 3 -7 5 -4 2
+34 -32 26 -12 1 1 0 5 10 -9 -2 -2 6 7 19
+-140 40 132 343 1 1 0 -36 34 9 87 -27 121 -55 -43
+351525 66390 -345685 42111 3 2 0 729 87883 13561 16599 14290 104482 -12835 71287
+-175589 135693 370702 107414 199999999 2 1 -49975611 50092676 -49973147 50030389 -70655902 70830209 -70716679 70776502
+1346020 2053080 2860323 2053080 1000000 1 0 86505 965081 263270 763270 496221 1581905 -530319 555365
+-18555855 4161233 14542485 -5653522 2 64 0 -4638965 -4509672 1001968 1040310 -3598658 -3507701 -5679275 -5511640
+52286223 -57441336 32350789 29904643 199999999 64 32 -39498247 60579627 -53442087 46899109 -63573140 78111542 -57108035 84732393
+-1413990026 -783513985 -1413990026 -1135426919 2 1 0 -353497508 -353497505 -283856731 -195878495 -637354239 -549376000 -157619013 -69640774
+-9 5 8 0 1000000 1 0 -250003 250002 -250000 250002 -353556 353556 -353559 353556
+-26 -31 2 -39 1000000 1 0 -250007 250001 -250010 249993 -353569 353546 -353554 353565
+478 134 -392 -736 1 1 0 -99 121 -185 35 -284 156 83 89
+-292532 271127 -37378 -192751 1 2 0 -73134 -41237 9796 67783 -31444 -5349 -140917 -51033
+382823 -3283 386936 -399376 2 1 0 95704 96735 -99845 -819 -3112 94888 96523 196580
+651479 1695169 2646259 1911674 0 5 4 561825 661565 467093 477919 1028918 1139484 94731 183647
+1087134 -15275185 18581938 23172102 199999999 64 0 -49728217 50340123 -53818797 46331389 -74257693 67382191 -66701946 74801260
+21128460 36245828 -25596848 -45704414 2 64 32 -741071 -558547 -1502443 -1182322 -2243514 -1740869 623772 761375
+865059534 1922892867 1124922196 1922892867 0 1 0 216264883 281230549 480723216 480723217 696988099 761953766 -264458334 -199492667
+8 3 5 5 1 1 0 0 3 -1 3 0 6 -3 4
+11 -15 1 -30 0 1 0 0 3 -8 -3 -8 0 5 9
+60 208 60 222 199999999 1 0 -49999985 50000015 -49999948 50000056 -70710612 70710750 -70710720 70710642
+27886 66264 -329160 338360 199999999 1 0 -50082290 50006972 -49983434 50084590 -70708379 70734217 -70877559 70701085
+212488 140709 10552 -339265 199999999 2 1 -49997362 50027880 -50084817 49975181 -70792858 70713740 -70657980 70798134
+239603 -507674 2698816 1951539 199999999 1 0 -49940100 50674704 -50126919 50487885 -70777698 71873268 -70523861 70897499
+-1153824 15139543 5891759 -17125248 199999999 64 0 -50288456 49739066 -46341149 53784886 -67312763 74207109 -74784021 66790894
+-36799158 56705760 64481612 1553117 3 64 32 3460305 3855936 7066918 7282361 10742663 10922857 -3822056 -3210982
+-1142468394 -1891604630 -1690123776 1626750428 1 64 63 -422530945 -420391664 392944031 406687608 -27447636 -15843335 -829218553 -813335695";
+
+fn row_of(line: &str) -> Option<[i64; 15]> {
+    let mut row = [0; 15];
+    let mut words = line.split(' ');
+    for number in row.iter_mut() {
+        *number = words.next()?.parse().ok()?;
+    }
+    Some(row)
+}
+
+#[test]
+fn hulls_are_those_of_exact_fractions(rt: HostRuntime) -> Result<(), Fail> {
+    for line in SEGMENTS.lines() {
+        let row = row_of(line).ok_or("fifteen numbers")?;
+        let [x, y, u, v, radius, count, number, ..] = row;
+        let from = place(x, y).ok_or("near 0")?;
+        let to = place(u, v).ok_or("near 0")?;
+        let radius = u32::try_from(radius).map_err(|_| "a radius")?;
+        if radius > 2_000_000_000 {
+            return Err("a metre".into());
+        }
+        let hulls = Shape::capsule(from, to, radius).hulls(rt.alloc())?;
+        assert_eq!(rt; hulls.len() as i64, count, "{line}");
+        let number = usize::try_from(number).map_err(|_| "a number")?;
+        let hull = hulls.get(number).ok_or("a hull of that number")?;
+        assert_eq!(rt; bounds(hull)[..], row[7..], "{line}");
+    }
+    Ok(())
+}
+
+#[test]
+fn pads_are_made_of_cores_and_radii(rt: HostRuntime) -> Result<(), Fail> {
+    // a pad of 2 mm by 1 mm at (5 5), lengths in halves: as rect, as oval, and as roundrect of ratio 0.25, whose
+    // radius is 2 * 1,000,000 / 4
+    let center = Point {
+        x: 10_000_000,
+        y: 10_000_000,
+    };
+    let rect = Shape::box_round(center, 2_000_000, 1_000_000, 0);
+    let hulls = rect.hulls(rt.alloc())?;
+    assert_eq!(rt; hulls.len(), 1);
+    assert_eq!(rt;
+        bounds(&hulls[0]),
+        [
+            2_000_000, 3_000_000, 2_250_000, 2_750_000, 4_250_000, 5_750_000, -750_000, 750_000
+        ]
+    );
+    let oval = Shape::capsule(at(450, 500), at(550, 500), 1_000_000);
+    let hulls = oval.hulls(rt.alloc())?;
+    assert_eq!(rt; hulls.len(), 1);
+    assert_eq!(rt;
+        bounds(&hulls[0]),
+        [
+            2_000_000, 3_000_000, 2_250_000, 2_750_000, 4_396_446, 5_603_554, -603_554, 603_554
+        ]
+    );
+    let round = Shape::box_round(center, 1_500_000, 500_000, 500_000);
+    assert_eq!(rt; round.radius(), 500_000);
+    let hulls = round.hulls(rt.alloc())?;
+    assert_eq!(rt; hulls.len(), 1);
+    assert_eq!(rt;
+        bounds(&hulls[0]),
+        [
+            2_000_000, 3_000_000, 2_250_000, 2_750_000, 4_323_223, 5_676_777, -676_777, 676_777
+        ]
+    );
+    // a piece of a fill: the corners in halves are four times those in units
+    let piece = Shape::of_oct(&Oct::ball(100));
+    let Kind::Area(core) = piece.core().kind() else {
+        return Err("an area".into());
+    };
+    assert_eq!(rt;
+        (core.x0, core.y1, core.s1, core.d0),
+        (-400, 400, 568, -568)
+    );
+    assert_eq!(rt; piece.radius(), 0);
+    let hulls = piece.hulls(rt.alloc())?;
+    assert!(rt; hulls.len() == 1 && hulls[0] == Oct::ball(100));
+    Ok(())
+}

@@ -1,0 +1,4 @@
+pub mod Room
+pub mod Kinds
+pub mod Numbers
+pub mod Steps

@@ -1,0 +1,44 @@
+-- The laws of touching: what the decision decides, and where the least distance of two cores is.
+use Rattle.std.specs.Prelude.{◌≡◌, ℕ, ◌*◌, ◌⊎◌, ◌↔◌}
+use Rattle.plane.specs.Plane.{PlanePoint, grid_point}
+use Rattle.touching.specs.Core.{Spot, Core, area, line, OnLine, InCore, IsWhole, IsReached, Touches}
+use Rattle.touching.specs.Decision.{Side, start_of, end_of, AreClose}
+
+-- the decision on whole numbers holds exactly where the cores are within reach: of all their points, at every scale
+abbrev pub DecisionLaw : Type 0
+DecisionLaw = (r : ℕ) (c d : Core) → IsWhole c → IsWhole d → AreClose (r * r) c d ↔ Touches r c d
+
+-- touching has no order
+abbrev pub OrderLaw : Type 0
+OrderLaw = (r : ℕ) (c d : Core) → Touches r c d ↔ Touches r d c
+
+-- some point is in both
+unfoldable pub AreMeeting : Core → Core → Type 0
+AreMeeting c d = (p : PlanePoint) × InCore c p × InCore d p
+
+-- a side of a core, from s to t: of an area one of the eight, of a line the line itself
+unfoldable pub HasSide : Core → Spot → Spot → Type 0
+HasSide (area b) s t = (k : Side) × (s ≡ start_of b k) × (t ≡ end_of b k)
+HasSide (line u v) s t = (s ≡ u) × (t ≡ v)
+
+-- a corner of a core: an end of one of its sides
+unfoldable pub HasCorner : Core → Spot → Type 0
+HasCorner c s = (t : Spot) × (HasSide c s t ⊎ HasSide c t s)
+
+-- a corner of c is at most r away from a point of a side of d
+pub record CornerReaches (r : ℕ) (c d : Core) : Type 0 where
+  pub corner : Spot
+  pub from : Spot
+  pub to : Spot
+  pub at : PlanePoint
+  pub is_corner : HasCorner c corner
+  pub is_side : HasSide d from to
+  pub on : OnLine from to at
+  pub reached : IsReached r (grid_point corner.x corner.y) at
+
+-- the law of distances: cores within reach of one another meet, or a corner of the one is within reach of a point of a
+-- side of the other. Nothing else has to be tried.
+abbrev pub DistanceLaw : Type 0
+DistanceLaw =
+    (r : ℕ) (c d : Core) → IsWhole c → IsWhole d
+    → Touches r c d ↔ (AreMeeting c d ⊎ (CornerReaches r c d ⊎ CornerReaches r d c))
