@@ -1,5 +1,5 @@
 -- How large a board may be: how much of its most an item takes.
-use Rattle.std.specs.Prelude.{◌≡◌, ℕ, ◌+◌, ◌<◌, ◌≤◌, ◌⊎◌, cond, List, length, sum_by}
+use Rattle.std.specs.Prelude.{ℕ, ◌+◌, Bool, ◌&&◌, ◌||◌, nat_le, nat_lt, cond, List, length, sum_by}
 use Rattle.sexpr_text.specs.Items.{Item}
 use Rattle.board_language.specs.Things.{Placed, Thing, Net, Track, Via, RuleArea, Zone, Drawing, Pad, thing_of}
 use Rattle.board_language.specs.Items.{Context}
@@ -29,10 +29,11 @@ outlines_as c item other = 0
 unfoldable pub outlines_of : Context → Placed → ℕ
 outlines_of c p = outlines_as c p.item (thing_of c.bytes p)
 
--- the item is the first with which the most is passed
-abbrev pub IsFirstOver : ℕ → (Placed → ℕ) → List Placed → Placed → Type 0
-IsFirstOver most count before p = (sum_by count before ≤ most) × (most < sum_by count before + count p)
+-- with the item, after those before it, the most is passed for the first time
+abbrev pub is_first_over : ℕ → ℕ → ℕ → Bool
+is_first_over most before own = nat_le before most && nat_lt most (before + own)
 
 -- it is the first with which there are too many things, or too many outlines
-unfoldable pub IsOneTooMany : Context → List Placed → Placed → Type 0
-IsOneTooMany c before p = IsFirstOver 200000 (things_of c) before p ⊎ IsFirstOver 2000 (outlines_of c) before p
+unfoldable pub is_one_too_many : Context → List Placed → Placed → Bool
+is_one_too_many c before p =
+    is_first_over 200000 (sum_by (things_of c) before) (things_of c p) || is_first_over 2000 (sum_by (outlines_of c) before) (outlines_of c p)

@@ -13,7 +13,7 @@ use Rattle.board_fields.specs.Lists.{lists_of}
 use Rattle.board_language.specs.Fields.{list_of, has_list, head_begins}
 use Rattle.board_language.specs.Numbers.{first_of, point_fault, is_short}
 use Rattle.board_language.specs.Layers.{is_drawn_on, is_edge_name, is_copper}
-use Rattle.board_language.specs.Board.{Edge}
+use Rattle.copper_shape.specs.declared.edge.Edge.{Edge}
 use Rattle.board_language.specs.Items.{Context, point_at, point_in}
 use Rattle.board_language.specs.Zones.{lists_in}
 

@@ -1,6 +1,6 @@
 -- What offends in an item, by what the item is. An item is tried with what holds for the whole board and with the items
 -- before it in the file.
-use Rattle.std.specs.Prelude.{◌≡◌, ◌≢◌, ◌⊎◌, ℕ, ◌<◌, ◌≤◌, Bool, true, false, not, ◌&&◌, ◌||◌, ◌==◌, nat_lt, cond, is_none, IsTrue, List, [], ◌∷◌, map, filter, filter_map, flat_map, length, codes, slice_get, Option, None, Some, ℤ, pos, int_lt}
+use Rattle.std.specs.Prelude.{◌≡◌, ◌≢◌, ◌⊎◌, ℕ, ◌<◌, ◌≤◌, Bool, true, false, not, ◌&&◌, ◌||◌, ◌==◌, nat_lt, cond, is_none, IsTrue, List, [], ◌∷◌, map, filter, filter_map, flat_map, length, codes, slice_get, Option, None, Some, ℤ, pos, int_lt, option_map}
 use Rattle.std.specs.List.{list_any, list_all, Any}
 use Rattle.std.specs.Str.{bytes_eq}
 use Rattle.grid_num.specs.declared.read.NumFault.{NumFault}
@@ -9,6 +9,9 @@ use Rattle.board_fields.specs.Lists.{headed}
 use Rattle.board_fields.specs.Values.{behind_head}
 use Rattle.outline_slab.specs.declared.error.OutlineFault.{OutlineFault}
 use Rattle.outline_slab.specs.Faults as outlines
+use Rattle.outline_slab.specs.Rules.{IsOutline}
+use Rattle.grid_num.specs.declared.Point.{Point}
+use Rattle.std.specs.Option.{option_or}
 use Rattle.board_language.specs.declared.offence.OffenceKind.{OffenceKind}
 use Rattle.board_language.specs.declared.offence.OffenceKind.TheVariants as kinds
 use Rattle.board_language.specs.Fields.{list_of, list_in, has_list, head_begins, text_at, says_at, texts_of, passes}
@@ -20,7 +23,20 @@ use Rattle.board_language.specs.Tracks.{layer_names, name_at, track_layer, via_l
 use Rattle.board_language.specs.Pads.{is_type, is_shape, is_read_pad, has_read_pad, turns_at, drill_of, drill_width, drill_height, ratio_in, bridge_list, pad_fault, footprint_fault, is_hole}
 use Rattle.board_language.specs.Zones as zones
 use Rattle.board_language.specs.Edges.{is_edge, is_on_copper, is_curved, lacks_points, edge_fault}
-use Rattle.board_language.specs.Counts.{IsOneTooMany}
+use Rattle.board_language.specs.Counts.{is_one_too_many}
+
+-- the kind, where the test holds
+abbrev pub when : OffenceKind → Bool → Option OffenceKind
+when kind test = cond test (Some kind) None
+
+-- a number that can't be read
+abbrev pub number : Option NumFault → Option OffenceKind
+number fault = option_map kinds.Number fault
+
+-- the kinds are tried in their order, and the first that holds counts
+abbrev pub first_kind : List (Option OffenceKind) → Option OffenceKind
+first_kind [] = None
+first_kind (kind ∷ more) = option_or kind (first_kind more)
 
 -- one of the lists with these heads isn't there
 abbrev pub lacks : List ℕ → List (List ℕ) → Item → Bool
@@ -43,11 +59,13 @@ abbrev pub is_version : List ℕ → Option Item → Bool
 is_version bytes list =
     passes (λ version. is_whole (text_at bytes 0 version) && is_version_number (value_at whole_number bytes 0 0 (Some version))) list
 
-abbrev pub BoardOffends : Context → Item → OffenceKind → Type 0
-BoardOffends c board kinds.NotBoard = is_headed c.bytes (codes "kicad_pcb") board ≡ false
-BoardOffends c board kinds.Version = is_version c.bytes (list_of c.bytes (codes "version") board) ≡ false
-BoardOffends c board kinds.MissingPart = has_list c.bytes (codes "layers") board ≡ false
-BoardOffends c board other = ⊥
+unfoldable pub board_kind : Context → Item → Option OffenceKind
+board_kind c board =
+    first_kind (
+    when kinds.NotBoard (not (is_headed c.bytes (codes "kicad_pcb") board))
+    ∷ when kinds.Version (not (is_version c.bytes (list_of c.bytes (codes "version") board)))
+    ∷ when kinds.MissingPart (not (has_list c.bytes (codes "layers") board))
+    ∷ [])
 
 -- ---- layers: the first `layers` of the board is read
 
@@ -61,12 +79,14 @@ layers_fault bytes layers = first_of (map (layer_fault bytes) (layers_in layers)
 abbrev pub layer_names_in : List ℕ → Item → List Name
 layer_names_in bytes layers = filter_map (name_of_layer bytes) (layers_in layers)
 
-abbrev pub LayersOffend : Context → Item → OffenceKind → Type 0
-LayersOffend c layers kinds.MissingPart = IsTrue (list_any (λ layer. is_none (name_of_layer c.bytes layer)) (layers_in layers))
-LayersOffend c layers (kinds.Number fault) = layers_fault c.bytes layers ≡ Some fault
-LayersOffend c layers kinds.DoubleLayer = IsTrue (has_double (layer_names_in c.bytes layers))
-LayersOffend c layers kinds.TooMany = 32 < length (filter is_copper (layer_names_in c.bytes layers))
-LayersOffend c layers other = ⊥
+unfoldable pub layers_kind : Context → Item → Option OffenceKind
+layers_kind c layers =
+    first_kind (
+    when kinds.MissingPart (list_any (λ layer. is_none (name_of_layer c.bytes layer)) (layers_in layers))
+    ∷ number (layers_fault c.bytes layers)
+    ∷ when kinds.DoubleLayer (has_double (layer_names_in c.bytes layers))
+    ∷ when kinds.TooMany (nat_lt 32 (length (filter is_copper (layer_names_in c.bytes layers))))
+    ∷ [])
 
 -- ---- nets
 
@@ -85,12 +105,14 @@ abbrev pub is_declared_among : List ℕ → Option ℕ → Bool
 is_declared_among nets None = false
 is_declared_among nets (Some n) = has_number nets n
 
-abbrev pub NetOffends : Context → List Placed → Placed → OffenceKind → Type 0
-NetOffends c before p kinds.MissingPart = IsTrue (is_short 1 (Some p.item))
-NetOffends c before p (kinds.Number fault) = whole_fault_at c.bytes 0 (Some p.item) ≡ Some fault
-NetOffends c before p kinds.DoubleNet = IsTrue (is_declared_among (nets_among c.bytes before) (declared_net c.bytes p.item))
-NetOffends c before p kinds.TooMany = IsOneTooMany c before p
-NetOffends c before p other = ⊥
+unfoldable pub net_kind : Context → List Placed → Placed → Option OffenceKind
+net_kind c before p =
+    first_kind (
+    when kinds.MissingPart (is_short 1 (Some p.item))
+    ∷ number (whole_fault_at c.bytes 0 (Some p.item))
+    ∷ when kinds.DoubleNet (is_declared_among (nets_among c.bytes before) (declared_net c.bytes p.item))
+    ∷ when kinds.TooMany (is_one_too_many c before p)
+    ∷ [])
 
 -- ---- stamps
 
@@ -113,8 +135,8 @@ is_stamped_among stamps None = false
 is_stamped_among stamps (Some stamp) = is_among stamps stamp
 
 -- another of these has the same stamp, at a lesser place
-abbrev pub IsDoubleStamp : Context → List Placed → Item → Type 0
-IsDoubleStamp c before item = IsTrue (is_stamped_among (stamps_among c.bytes before) (stamp_in c.bytes item))
+abbrev pub is_double_stamp : Context → List Placed → Item → Bool
+is_double_stamp c before item = is_stamped_among (stamps_among c.bytes before) (stamp_in c.bytes item)
 
 -- ---- tracks and vias
 
@@ -127,15 +149,17 @@ track_lacks bytes item =
     || (nat_lt (length (layer_names bytes (codes "layer") item)) 1
     || (has_short bytes 2 (codes "start" ∷ codes "end" ∷ []) item || has_short bytes 1 (codes "width" ∷ codes "net" ∷ []) item))
 
-abbrev pub TrackOffends : Context → List Placed → Placed → OffenceKind → Type 0
-TrackOffends c before p kinds.MissingPart = IsTrue (track_lacks c.bytes p.item)
-TrackOffends c before p (kinds.Number fault) = track_fault c.bytes p.item ≡ Some fault
-TrackOffends c before p kinds.BadSize = IsTrue (has_bad_size c.bytes (codes "width") p.item)
-TrackOffends c before p kinds.UnknownLayer = is_among c.copper (track_layer c.bytes p.item) ≡ false
-TrackOffends c before p kinds.UnknownNet = IsTrue (is_unknown_net c (net_of c.bytes p.item))
-TrackOffends c before p kinds.DoubleStamp = IsDoubleStamp c before p.item
-TrackOffends c before p kinds.TooMany = IsOneTooMany c before p
-TrackOffends c before p other = ⊥
+unfoldable pub track_kind : Context → List Placed → Placed → Option OffenceKind
+track_kind c before p =
+    first_kind (
+    when kinds.MissingPart (track_lacks c.bytes p.item)
+    ∷ number (track_fault c.bytes p.item)
+    ∷ when kinds.BadSize (has_bad_size c.bytes (codes "width") p.item)
+    ∷ when kinds.UnknownLayer (not (is_among c.copper (track_layer c.bytes p.item)))
+    ∷ when kinds.UnknownNet (is_unknown_net c (net_of c.bytes p.item))
+    ∷ when kinds.DoubleStamp (is_double_stamp c before p.item)
+    ∷ when kinds.TooMany (is_one_too_many c before p)
+    ∷ [])
 
 abbrev pub via_lacks : List ℕ → Item → Bool
 via_lacks bytes item =
@@ -143,15 +167,17 @@ via_lacks bytes item =
     || (nat_lt (length (layer_names bytes (codes "layers") item)) 2
     || (has_short bytes 2 (codes "at" ∷ []) item || has_short bytes 1 (codes "size" ∷ codes "net" ∷ []) item))
 
-abbrev pub ViaOffends : Context → List Placed → Placed → OffenceKind → Type 0
-ViaOffends c before p kinds.MissingPart = IsTrue (via_lacks c.bytes p.item)
-ViaOffends c before p (kinds.Number fault) = via_fault c.bytes p.item ≡ Some fault
-ViaOffends c before p kinds.BadSize = IsTrue (has_bad_size c.bytes (codes "size") p.item)
-ViaOffends c before p kinds.UnknownLayer = (is_among c.copper (via_layer c.bytes 0 p.item) && is_among c.copper (via_layer c.bytes 1 p.item)) ≡ false
-ViaOffends c before p kinds.UnknownNet = IsTrue (is_unknown_net c (net_of c.bytes p.item))
-ViaOffends c before p kinds.DoubleStamp = IsDoubleStamp c before p.item
-ViaOffends c before p kinds.TooMany = IsOneTooMany c before p
-ViaOffends c before p other = ⊥
+unfoldable pub via_kind : Context → List Placed → Placed → Option OffenceKind
+via_kind c before p =
+    first_kind (
+    when kinds.MissingPart (via_lacks c.bytes p.item)
+    ∷ number (via_fault c.bytes p.item)
+    ∷ when kinds.BadSize (has_bad_size c.bytes (codes "size") p.item)
+    ∷ when kinds.UnknownLayer (not (is_among c.copper (via_layer c.bytes 0 p.item) && is_among c.copper (via_layer c.bytes 1 p.item)))
+    ∷ when kinds.UnknownNet (is_unknown_net c (net_of c.bytes p.item))
+    ∷ when kinds.DoubleStamp (is_double_stamp c before p.item)
+    ∷ when kinds.TooMany (is_one_too_many c before p)
+    ∷ [])
 
 -- ---- footprints and pads
 
@@ -171,13 +197,14 @@ abbrev pub has_angle : List ℕ → Item → Bool
 has_angle bytes item = not (is_none (turns_at bytes (list_of bytes (codes "at") item)))
 
 -- what a footprint says for its pads is read where it stands; its place and angle are needed where a pad of it is read
-abbrev pub FootprintOffends : Context → Item → OffenceKind → Type 0
-FootprintOffends c item kinds.MissingPart = IsTrue (footprint_lacks c item)
-FootprintOffends c item (kinds.Number fault) = footprint_fault c.bytes item ≡ Some fault
-FootprintOffends c item kinds.Angle = IsTrue (has_read_pad c item && not (has_angle c.bytes item))
-FootprintOffends c item kinds.BadSize =
-    IsTrue (has_bad_length c.bytes (codes "clearance" ∷ codes "thermal_gap" ∷ codes "thermal_width" ∷ []) item || is_bad_connect c.bytes item)
-FootprintOffends c item other = ⊥
+unfoldable pub footprint_kind : Context → Item → Option OffenceKind
+footprint_kind c item =
+    first_kind (
+    when kinds.MissingPart (footprint_lacks c item)
+    ∷ number (footprint_fault c.bytes item)
+    ∷ when kinds.Angle (has_read_pad c item && not (has_angle c.bytes item))
+    ∷ when kinds.BadSize (has_bad_length c.bytes (codes "clearance" ∷ codes "thermal_gap" ∷ codes "thermal_width" ∷ []) item || is_bad_connect c.bytes item)
+    ∷ [])
 
 abbrev pub pad_types : List (List ℕ)
 pad_types = codes "thru_hole" ∷ codes "smd" ∷ codes "connect" ∷ codes "np_thru_hole" ∷ []
@@ -223,19 +250,20 @@ pad_is_bad bytes pad =
     || (is_bad_length bytes (bridge_list bytes pad) || is_bad_connect bytes pad)))))
 
 -- of a pad that is read, in a footprint
-abbrev pub PadOffends : Context → List Placed → Item → Placed → OffenceKind → Type 0
-PadOffends c before footprint p kinds.PadType = list_any (λ name. is_type c.bytes name p.item) pad_types ≡ false
-PadOffends c before footprint p kinds.PadShape =
-    IsTrue (not (list_any (λ name. is_shape c.bytes name p.item) pad_shapes) || is_chamfered c.bytes p.item)
-PadOffends c before footprint p kinds.PadOffset = IsTrue (is_off_hole c.bytes p.item)
-PadOffends c before footprint p kinds.MissingPart = IsTrue (pad_lacks c.bytes p.item)
-PadOffends c before footprint p (kinds.Number fault) = pad_fault c.bytes footprint p.item ≡ Some fault
-PadOffends c before footprint p kinds.Angle = has_angle c.bytes p.item ≡ false
-PadOffends c before footprint p kinds.BadSize = IsTrue (pad_is_bad c.bytes p.item)
-PadOffends c before footprint p kinds.UnknownLayer = IsTrue (has_unknown c.bytes c.copper (list_of c.bytes (codes "layers") p.item))
-PadOffends c before footprint p kinds.UnknownNet = IsTrue (is_unknown_net c (net_of c.bytes p.item))
-PadOffends c before footprint p kinds.TooMany = IsOneTooMany c before p
-PadOffends c before footprint p other = ⊥
+unfoldable pub pad_kind : Context → List Placed → Item → Placed → Option OffenceKind
+pad_kind c before footprint p =
+    first_kind (
+    when kinds.PadType (not (list_any (λ name. is_type c.bytes name p.item) pad_types))
+    ∷ when kinds.PadShape (not (list_any (λ name. is_shape c.bytes name p.item) pad_shapes) || is_chamfered c.bytes p.item)
+    ∷ when kinds.PadOffset (is_off_hole c.bytes p.item)
+    ∷ when kinds.MissingPart (pad_lacks c.bytes p.item)
+    ∷ number (pad_fault c.bytes footprint p.item)
+    ∷ when kinds.Angle (not (has_angle c.bytes p.item))
+    ∷ when kinds.BadSize (pad_is_bad c.bytes p.item)
+    ∷ when kinds.UnknownLayer (has_unknown c.bytes c.copper (list_of c.bytes (codes "layers") p.item))
+    ∷ when kinds.UnknownNet (is_unknown_net c (net_of c.bytes p.item))
+    ∷ when kinds.TooMany (is_one_too_many c before p)
+    ∷ [])
 
 -- ---- zones and rule areas
 
@@ -260,22 +288,30 @@ abbrev pub outline_lacks : List ℕ → Item → Bool
 outline_lacks bytes zone =
     is_none (zones.points_list bytes zone) || list_any (λ list. is_short 2 (Some list)) (zones.corner_lists bytes zone)
 
-abbrev pub HasBadOutline : List ℕ → Item → OutlineFault → Type 0
-HasBadOutline bytes zone fault = outlines.HasFault (zones.corners_of bytes zone) fault
+abbrev pub is_long_outline : List ℕ → Item → Bool
+is_long_outline bytes zone = nat_lt 20000 (length (zones.corner_lists bytes zone))
 
-abbrev pub IsLongOutline : List ℕ → Item → Type 0
-IsLongOutline bytes zone = 20000 < length (zones.corner_lists bytes zone)
+-- the first rule of outlines that the corners break, or none
+abbrev pub IsOutlineResult : List Point → Option OutlineFault → Type 0
+IsOutlineResult corners None = IsOutline corners
+IsOutlineResult corners (Some fault) = outlines.HasFault corners fault
 
--- what offends in an outline, of a zone or of a rule area
-abbrev pub OutlineOffends : Context → List Placed → Placed → OffenceKind → Type 0
-OutlineOffends c before p kinds.ManyOutlines = IsTrue (has_two_outlines c.bytes p.item)
-OutlineOffends c before p kinds.PolygonArc = IsTrue (has_arc c.bytes p.item)
-OutlineOffends c before p kinds.MissingPart = IsTrue (outline_lacks c.bytes p.item)
-OutlineOffends c before p (kinds.Number fault) = zones.corners_fault c.bytes p.item ≡ Some fault
-OutlineOffends c before p kinds.UnknownLayer = IsTrue (has_unknown c.bytes c.copper (zones.layer_list c.bytes p.item))
-OutlineOffends c before p (kinds.Outline fault) = HasBadOutline c.bytes p.item fault
-OutlineOffends c before p kinds.TooMany = IsOneTooMany c before p ⊎ IsLongOutline c.bytes p.item
-OutlineOffends c before p other = ⊥
+abbrev pub bad_outline : Option OutlineFault → Option OffenceKind
+bad_outline fault = option_map kinds.Outline fault
+
+-- of a rule area that is read: its layers and its outline alone
+unfoldable pub area_kind : Context → List Placed → Placed → Option OutlineFault → Option OffenceKind
+area_kind c before p outline =
+    first_kind (
+    when kinds.ManyOutlines (has_two_outlines c.bytes p.item)
+    ∷ when kinds.PolygonArc (has_arc c.bytes p.item)
+    ∷ when kinds.MissingPart (outline_lacks c.bytes p.item)
+    ∷ number (zones.corners_fault c.bytes p.item)
+    ∷ when kinds.UnknownLayer (has_unknown c.bytes c.copper (zones.layer_list c.bytes p.item))
+    ∷ when kinds.DoubleStamp (is_double_stamp c before p.item)
+    ∷ bad_outline outline
+    ∷ when kinds.TooMany (is_one_too_many c before p || is_long_outline c.bytes p.item)
+    ∷ [])
 
 -- an island mode other than 0 and 1, where it can be read
 abbrev pub is_other_mode : Option (List ℕ) → Bool
@@ -296,73 +332,81 @@ zone_is_bad bytes zone =
     list_any is_no_length (zones.clearance_in bytes zone ∷ zones.thickness_in bytes zone ∷ zones.gap_in bytes zone ∷ zones.bridge_in bytes zone ∷ [])
 
 -- of a zone that is read
-abbrev pub ZoneOffends : Context → List Placed → Placed → OffenceKind → Type 0
-ZoneOffends c before p kinds.Teardrop = IsTrue (has_teardrop c.bytes p.item)
-ZoneOffends c before p kinds.HatchFill = IsTrue (is_hatched c.bytes p.item)
-ZoneOffends c before p kinds.Smoothing = IsTrue (is_smoothed c.bytes p.item)
-ZoneOffends c before p kinds.IslandArea = IsTrue (has_other_mode c.bytes p.item)
-ZoneOffends c before p kinds.MissingPart = IsTrue (zone_lacks c.bytes p.item)
-ZoneOffends c before p (kinds.Number fault) = zones.zone_fault c.bytes p.item ≡ Some fault
-ZoneOffends c before p kinds.BadSize = IsTrue (zone_is_bad c.bytes p.item)
-ZoneOffends c before p kinds.Thin = size_of (zones.thickness_in c.bytes p.item) < 1000
-ZoneOffends c before p kinds.UnknownNet = IsTrue (is_unknown_net c (net_of c.bytes p.item))
-ZoneOffends c before p kinds.DoubleStamp = IsDoubleStamp c before p.item
-ZoneOffends c before p other = OutlineOffends c before p other
-
--- of a rule area that is read: its layers and its outline alone
-abbrev pub AreaOffends : Context → List Placed → Placed → OffenceKind → Type 0
-AreaOffends c before p kinds.DoubleStamp = IsDoubleStamp c before p.item
-AreaOffends c before p other = OutlineOffends c before p other
+unfoldable pub zone_kind : Context → List Placed → Placed → Option OutlineFault → Option OffenceKind
+zone_kind c before p outline =
+    first_kind (
+    when kinds.Teardrop (has_teardrop c.bytes p.item)
+    ∷ when kinds.HatchFill (is_hatched c.bytes p.item)
+    ∷ when kinds.Smoothing (is_smoothed c.bytes p.item)
+    ∷ when kinds.IslandArea (has_other_mode c.bytes p.item)
+    ∷ when kinds.ManyOutlines (has_two_outlines c.bytes p.item)
+    ∷ when kinds.PolygonArc (has_arc c.bytes p.item)
+    ∷ when kinds.MissingPart (zone_lacks c.bytes p.item)
+    ∷ number (zones.zone_fault c.bytes p.item)
+    ∷ when kinds.BadSize (zone_is_bad c.bytes p.item)
+    ∷ when kinds.Thin (nat_lt (size_of (zones.thickness_in c.bytes p.item)) 1000)
+    ∷ when kinds.UnknownLayer (has_unknown c.bytes c.copper (zones.layer_list c.bytes p.item))
+    ∷ when kinds.UnknownNet (is_unknown_net c (net_of c.bytes p.item))
+    ∷ when kinds.DoubleStamp (is_double_stamp c before p.item)
+    ∷ bad_outline outline
+    ∷ when kinds.TooMany (is_one_too_many c before p || is_long_outline c.bytes p.item)
+    ∷ [])
 
 -- of a zone or rule area that isn't read the stamp counts alone
-abbrev pub StampOffends : Context → List Placed → Placed → OffenceKind → Type 0
-StampOffends c before p kinds.DoubleStamp = IsDoubleStamp c before p.item
-StampOffends c before p other = ⊥
+abbrev pub stamp_kind : Context → List Placed → Placed → Option OffenceKind
+stamp_kind c before p = when kinds.DoubleStamp (is_double_stamp c before p.item)
 
 -- ---- drawings
 
-abbrev pub DrawingOffends : Context → List Placed → Placed → OffenceKind → Type 0
-DrawingOffends c before p kinds.CopperGraphic = IsTrue (is_on_copper c.bytes p.item)
-DrawingOffends c before p kinds.EdgeCurve = IsTrue (is_edge c.bytes p.item && is_curved c.bytes p.item)
-DrawingOffends c before p kinds.MissingPart = IsTrue (is_edge c.bytes p.item && lacks_points c.bytes p.item)
-DrawingOffends c before p (kinds.Number fault) = IsTrue (is_edge c.bytes p.item) × (edge_fault c.bytes p.item ≡ Some fault)
-DrawingOffends c before p kinds.TooMany = IsOneTooMany c before p
-DrawingOffends c before p other = ⊥
+unfoldable pub drawing_kind : Context → List Placed → Placed → Option OffenceKind
+drawing_kind c before p =
+    first_kind (
+    when kinds.CopperGraphic (is_on_copper c.bytes p.item)
+    ∷ when kinds.EdgeCurve (is_edge c.bytes p.item && is_curved c.bytes p.item)
+    ∷ when kinds.MissingPart (is_edge c.bytes p.item && lacks_points c.bytes p.item)
+    ∷ number (cond (is_edge c.bytes p.item) (edge_fault c.bytes p.item) None)
+    ∷ when kinds.TooMany (is_one_too_many c before p)
+    ∷ [])
 
-abbrev pub FootprintDrawingOffends : Context → Item → OffenceKind → Type 0
-FootprintDrawingOffends c item kinds.CopperGraphic = IsTrue (is_on_copper c.bytes item)
-FootprintDrawingOffends c item kinds.FootprintEdge = IsTrue (head_begins c.bytes (codes "fp_") item && is_drawn_on is_edge_name c.bytes item)
-FootprintDrawingOffends c item other = ⊥
+unfoldable pub footprint_drawing_kind : Context → Item → Option OffenceKind
+footprint_drawing_kind c item =
+    first_kind (
+    when kinds.CopperGraphic (is_on_copper c.bytes item)
+    ∷ when kinds.FootprintEdge (head_begins c.bytes (codes "fp_") item && is_drawn_on is_edge_name c.bytes item)
+    ∷ [])
 
 -- ---- all of them
 
-abbrev pub is_layers : List ℕ → Placed → Bool
-is_layers bytes p = is_layers_as (thing_of bytes p)
-  where
-    is_layers_as : Thing → Bool
-    is_layers_as Layers = true
-    is_layers_as other = false
+abbrev pub is_layers : Thing → Bool
+is_layers Layers = true
+is_layers other = false
 
-abbrev pub Never : OffenceKind → Type 0
-Never kind = ⊥
-
-abbrev pub OffendsAs : Context → List Placed → Placed → Thing → OffenceKind → Type 0
-OffendsAs c before p Board kind = BoardOffends c p.item kind
 -- of several `layers` the first is read
-OffendsAs c before p Layers kind = cond (list_any (is_layers c.bytes) before) (Never kind) (LayersOffend c p.item kind)
-OffendsAs c before p Net kind = NetOffends c before p kind
-OffendsAs c before p Track kind = TrackOffends c before p kind
-OffendsAs c before p CurvedTrack kind = kind ≡ kinds.CurvedTrack
-OffendsAs c before p Via kind = ViaOffends c before p kind
-OffendsAs c before p Footprint kind = FootprintOffends c p.item kind
-OffendsAs c before p (Pad footprint) kind = cond (is_read_pad c p.item) (PadOffends c before footprint p kind) (Never kind)
-OffendsAs c before p Zone kind = cond (zones.is_read_zone c p.item) (ZoneOffends c before p kind) (StampOffends c before p kind)
-OffendsAs c before p RuleArea kind = cond (zones.is_read_area c p.item) (AreaOffends c before p kind) (StampOffends c before p kind)
-OffendsAs c before p Drawing kind = DrawingOffends c before p kind
-OffendsAs c before p FootprintDrawing kind = FootprintDrawingOffends c p.item kind
-OffendsAs c before p FootprintZone kind = kind ≡ kinds.FootprintZone
-OffendsAs c before p Other kind = ⊥
+abbrev pub has_layers : Context → List Placed → Bool
+has_layers c before = list_any (λ p. is_layers (thing_of c.bytes p)) before
 
--- the item offends in this way, after those before it
-unfoldable pub Offends : Context → List Placed → Placed → OffenceKind → Type 0
-Offends c before p kind = OffendsAs c before p (thing_of c.bytes p) kind
+abbrev pub kind_as : Context → List Placed → Placed → Option OutlineFault → Thing → Option OffenceKind
+kind_as c before p outline Board = board_kind c p.item
+kind_as c before p outline Layers = cond (has_layers c before) None (layers_kind c p.item)
+kind_as c before p outline Net = net_kind c before p
+kind_as c before p outline Track = track_kind c before p
+kind_as c before p outline CurvedTrack = Some kinds.CurvedTrack
+kind_as c before p outline Via = via_kind c before p
+kind_as c before p outline Footprint = footprint_kind c p.item
+kind_as c before p outline (Pad footprint) = cond (is_read_pad c p.item) (pad_kind c before footprint p) None
+kind_as c before p outline Zone = cond (zones.is_read_zone c p.item) (zone_kind c before p outline) (stamp_kind c before p)
+kind_as c before p outline RuleArea = cond (zones.is_read_area c p.item) (area_kind c before p outline) (stamp_kind c before p)
+kind_as c before p outline Drawing = drawing_kind c before p
+kind_as c before p outline FootprintDrawing = footprint_drawing_kind c p.item
+kind_as c before p outline FootprintZone = Some kinds.FootprintZone
+kind_as c before p outline Other = None
+
+-- how the item offends after those before it, where its outline is refused so; none where it doesn't
+unfoldable pub kind_with : Context → List Placed → Placed → Option OutlineFault → Option OffenceKind
+kind_with c before p outline = kind_as c before p outline (thing_of c.bytes p)
+
+-- how the item offends after those before it, or that it doesn't
+pub record IsKindOf (c : Context) (before : List Placed) (p : Placed) (kind : Option OffenceKind) : Type 0 where
+  pub outline : Option OutlineFault
+  pub is_outline : IsOutlineResult (zones.corners_of c.bytes p.item) outline
+  pub is_kind : kind ≡ kind_with c before p outline

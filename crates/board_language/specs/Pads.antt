@@ -24,7 +24,8 @@ use Rattle.board_language.specs.declared.Join.TheVariants.{Thermal, Solid, Apart
 use Rattle.board_language.specs.Fields.{list_of, text_of, text_at, says_at}
 use Rattle.board_language.specs.Numbers.{first_of, item_fault, length_fault, point_fault, length_fault_at, whole_fault_at, ratio_fault_at, read_or, length_of, length_at, ratio_of, whole_number, value_at, quarter_turns}
 use Rattle.board_language.specs.Layers.{has_copper, layer_set}
-use Rattle.board_language.specs.Board.{Shape, Pad}
+use Rattle.copper_shape.specs.Shapes.{Copper}
+use Rattle.board_language.specs.declared.board.Pad.{Pad}
 use Rattle.board_language.specs.Items.{Context, line_of, size_of, length_in, point_in, net_of}
 
 -- ---- types, shapes and layers
@@ -158,17 +159,17 @@ abbrev pub box_round : Point → ℕ → ℕ → Core
 box_round at half_width half_height =
     area (box_of (double at.x -ℤ pos half_width) (double at.x +ℤ pos half_width) (double at.y -ℤ pos half_height) (double at.y +ℤ pos half_height))
 
-abbrev pub circle : Point → Size → Shape
+abbrev pub circle : Point → Size → Copper
 circle at s = record { core = box_round at 0 0; radius = s.width }
 
-abbrev pub rectangle : Point → Size → Shape
+abbrev pub rectangle : Point → Size → Copper
 rectangle at s = record { core = box_round at s.width s.height; radius = 0 }
 
 abbrev pub spot : ℤ → ℤ → Spot
 spot x y = record { x = x; y = y }
 
 -- a segment along the longer side, as long as width and height differ
-abbrev pub oval : Point → Size → Shape
+abbrev pub oval : Point → Size → Copper
 oval at s =
     record {
       core = line (spot (double at.x -ℤ pos (s.width - s.height)) (double at.y -ℤ pos (s.height - s.width)))
@@ -180,14 +181,14 @@ oval at s =
 abbrev pub corner_radius : ℕ → Size → ℕ
 corner_radius ratio s = (2 * (min s.width s.height * ratio)) / 10 ^ 10
 
-abbrev pub rounded_by : ℕ → Point → Size → Shape
+abbrev pub rounded_by : ℕ → Point → Size → Copper
 rounded_by radius at s = record { core = box_round at (s.width - radius) (s.height - radius); radius = radius }
 
 -- the ratio of a rounded rectangle, in ten-thousand-millionths; a quarter where none is given
 abbrev pub ratio_in : List ℕ → Item → ℤ
 ratio_in bytes pad = value_at ratio_of bytes 0 (pos 2500000000) (list_of bytes (codes "roundrect_rratio") pad)
 
-unfoldable pub shape_of : List ℕ → Item → Point → Size → Shape
+unfoldable pub shape_of : List ℕ → Item → Point → Size → Copper
 shape_of bytes pad at s =
     if is_shape bytes (codes "circle") pad then circle at s
     else (if is_shape bytes (codes "oval") pad then oval at s

@@ -2,43 +2,49 @@
 use Rattle.std.specs.Prelude.{◌≡◌, ℕ, ◌<◌, Bool, true, false, cond, List, [], ◌∷◌, ◌++◌, filter_map, flat_map, Option, None, Some}
 use Rattle.sexpr_text.specs.Items.{Item}
 use Rattle.board_language.specs.declared.offence.OffenceKind.{OffenceKind}
-use Rattle.board_language.specs.declared.offence.OffenceKind.TheVariants as kinds
 use Rattle.board_language.specs.Layers.{copper_layers}
 use Rattle.board_language.specs.Things.{Placed, Thing, Track, Via, RuleArea, Zone, Drawing, Pad, thing_of, items_of_board}
+use Rattle.copper_shape.specs.declared.edge.Edge as edges
+use Rattle.board_language.specs.declared.board.Track as tracks
+use Rattle.board_language.specs.declared.board.Via as vias
+use Rattle.board_language.specs.declared.board.Pad as pads
+use Rattle.board_language.specs.declared.board.Zone as zones
+use Rattle.board_language.specs.declared.board.Area as areas
+use Rattle.board_language.specs.declared.board.Rules.{Rules}
 use Rattle.board_language.specs.Board as boards
 use Rattle.board_language.specs.Items.{Context, declared_nets, line_of}
 use Rattle.board_language.specs.Tracks.{track_of, via_of}
 use Rattle.board_language.specs.Pads.{is_read_pad, pad_of}
 use Rattle.board_language.specs.Zones.{is_read_zone, is_read_area, zone_of, area_of}
 use Rattle.board_language.specs.Edges.{edges_of}
-use Rattle.board_language.specs.Offences.{Offends}
+use Rattle.board_language.specs.Offences.{IsKindOf}
 
 unfoldable pub context_of : List ℕ → Item → Context
 context_of bytes board = record { bytes = bytes; copper = copper_layers bytes board; nets = declared_nets bytes board }
 
 -- ---- what each item gives
 
-abbrev pub track_from : Context → Item → Thing → Option boards.Track
+abbrev pub track_from : Context → Item → Thing → Option tracks.Track
 track_from c item Track = Some (track_of c item)
 track_from c item other = None
 
-abbrev pub via_from : Context → Item → Thing → Option boards.Via
+abbrev pub via_from : Context → Item → Thing → Option vias.Via
 via_from c item Via = Some (via_of c item)
 via_from c item other = None
 
-abbrev pub pad_from : Context → Item → Thing → Option boards.Pad
+abbrev pub pad_from : Context → Item → Thing → Option pads.Pad
 pad_from c item (Pad footprint) = cond (is_read_pad c item) (Some (pad_of c footprint item)) None
 pad_from c item other = None
 
-abbrev pub zone_from : Context → Item → Thing → Option boards.Zone
+abbrev pub zone_from : Context → Item → Thing → Option zones.Zone
 zone_from c item Zone = cond (is_read_zone c item) (Some (zone_of c item)) None
 zone_from c item other = None
 
-abbrev pub area_from : Context → Item → Thing → Option boards.Area
+abbrev pub area_from : Context → Item → Thing → Option areas.Area
 area_from c item RuleArea = cond (is_read_area c item) (Some (area_of c item)) None
 area_from c item other = None
 
-abbrev pub edges_from : Context → Item → Thing → List boards.Edge
+abbrev pub edges_from : Context → Item → Thing → List edges.Edge
 edges_from c item Drawing = edges_of c.bytes item
 edges_from c item other = []
 
@@ -46,7 +52,7 @@ edges_from c item other = []
 abbrev pub all_of : {X : Type 0} → (Context → Item → Thing → Option X) → Context → List Placed → List X
 all_of from c items = filter_map (λ p. from c p.item (thing_of c.bytes p)) items
 
-abbrev pub board_in : Context → List Placed → boards.Rules → boards.Board
+abbrev pub board_in : Context → List Placed → Rules → boards.Board
 board_in c items rules =
     record {
       layers = c.copper;
@@ -61,54 +67,14 @@ board_in c items rules =
     }
 
 -- the board that the root of a text's tree spells, where nothing offends
-unfoldable pub board_of : List ℕ → Item → boards.Rules → boards.Board
+unfoldable pub board_of : List ℕ → Item → Rules → boards.Board
 board_of bytes root rules = board_in (context_of bytes root) (items_of_board bytes root) rules
 
 -- ---- the first offence
 
--- the kinds in the order in which they are tried
-abbrev pub row : OffenceKind → ℕ
-row kinds.NotBoard = 1
-row kinds.Version = 2
-row kinds.CurvedTrack = 3
-row kinds.CopperGraphic = 4
-row kinds.FootprintEdge = 5
-row kinds.FootprintZone = 6
-row kinds.EdgeCurve = 7
-row kinds.Teardrop = 8
-row kinds.HatchFill = 9
-row kinds.Smoothing = 10
-row kinds.IslandArea = 11
-row kinds.ManyOutlines = 12
-row kinds.PolygonArc = 13
-row kinds.PadType = 14
-row kinds.PadShape = 15
-row kinds.PadOffset = 16
-row kinds.MissingPart = 17
-row (kinds.Number fault) = 18
-row kinds.Angle = 19
-row kinds.BadSize = 20
-row kinds.Thin = 21
-row kinds.DoubleLayer = 22
-row kinds.UnknownLayer = 23
-row kinds.DoubleNet = 24
-row kinds.UnknownNet = 25
-row kinds.DoubleStamp = 26
-row (kinds.Outline fault) = 27
-row kinds.TooMany = 28
-
--- the item offends in no way
-abbrev pub IsSound : Context → List Placed → Placed → Type 0
-IsSound c before p = (kind : OffenceKind) → Offends c before p kind → ⊥
-
--- it offends in this way, and in none that is tried before
-pub record IsFirstKind (c : Context) (before : List Placed) (p : Placed) (kind : OffenceKind) : Type 0 where
-  pub offends : Offends c before p kind
-  pub first : (other : OffenceKind) → row other < row kind → Offends c before p other → ⊥
-
 -- no item of the list offends
 abbrev pub AreSound : Context → List Placed → Type 0
-AreSound c items = (before after : List Placed) (p : Placed) → items ≡ before ++ p ∷ after → IsSound c before p
+AreSound c items = (before after : List Placed) (p : Placed) → items ≡ before ++ p ∷ after → IsKindOf c before p None
 
 -- an item offends in this way, and none of the items before it in the file offends
 pub record IsFirstOffence (c : Context) (items : List Placed) (at line : ℕ) (kind : OffenceKind) : Type 0 where
@@ -117,7 +83,7 @@ pub record IsFirstOffence (c : Context) (items : List Placed) (at line : ℕ) (k
   pub item : Placed
   pub stands : items ≡ before ++ item ∷ after
   pub sound : AreSound c before
-  pub is_kind : IsFirstKind c before item kind
+  pub is_kind : IsKindOf c before item (Some kind)
   pub at_item : at ≡ item.item.from
   pub on_line : line ≡ line_of c.bytes at
 

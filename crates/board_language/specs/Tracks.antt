@@ -8,7 +8,8 @@ use Rattle.sexpr_text.specs.Items.{Item}
 use Rattle.board_language.specs.Fields.{list_of}
 use Rattle.board_language.specs.Numbers.{first_of, point_fault, length_fault_at, whole_fault_at}
 use Rattle.board_language.specs.Layers.{Name, names_of, layer_number, layers_between}
-use Rattle.board_language.specs.Board.{Track, Via}
+use Rattle.board_language.specs.declared.board.Track.{Track}
+use Rattle.board_language.specs.declared.board.Via.{Via}
 use Rattle.board_language.specs.Items.{Context, line_of, span_of, size_of, length_in, point_in, net_of}
 
 -- the names in the list with this head; of a track's `layer` the first counts, of a via's `layers` the first two

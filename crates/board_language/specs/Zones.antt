@@ -22,7 +22,9 @@ use Rattle.board_language.specs.declared.Join.TheVariants.{Thermal, Solid, Apart
 use Rattle.board_language.specs.Fields.{list_of, list_in, has_list, says_at, texts_of, passes}
 use Rattle.board_language.specs.Numbers.{first_of, point_fault, length_fault_at, whole_fault_at, value_at, length_of, whole_number}
 use Rattle.board_language.specs.Layers.{has_copper, layer_set}
-use Rattle.board_language.specs.Board.{Zone, Settings, ZoneSpans, Area}
+use Rattle.board_language.specs.declared.board.Zone.{Zone}
+use Rattle.board_language.specs.declared.board.ZoneSpans.{ZoneSpans}
+use Rattle.board_language.specs.declared.board.Area.{Area}
 use Rattle.board_language.specs.Items.{Context, line_of, span_of, tail_of, size_of, point_at, whole_in, net_of}
 
 -- ---- which are read
@@ -115,21 +117,6 @@ abbrev pub join_in : List ℕ → Option Item → Join
 join_in bytes None = Thermal
 join_in bytes (Some connect) = first_join (texts_of bytes connect)
 
-unfoldable pub settings_of : Context → Item → Settings
-settings_of c zone =
-    record {
-      outline = outline_of c.bytes zone;
-      layers = layer_set c.bytes c.copper (layer_list c.bytes zone);
-      net = net_of c.bytes zone;
-      priority = whole_in c.bytes (codes "priority") zone;
-      join = join_in c.bytes (list_of c.bytes (codes "connect_pads") zone);
-      clearance = size_of (clearance_in c.bytes zone);
-      thickness = size_of (thickness_in c.bytes zone);
-      gap = size_of (gap_in c.bytes zone);
-      bridge = size_of (bridge_in c.bytes zone);
-      keep_islands = mode_in c.bytes zone == 1;
-    }
-
 -- ---- places
 
 abbrev pub span_or_none : Option Item → Option Span
@@ -149,10 +136,21 @@ spans_of bytes zone =
       fills = map span_of (filter (is_fill bytes) (lists_of zone));
     }
 
+-- ---- the whole
+
 unfoldable pub zone_of : Context → Item → Zone
 zone_of c zone =
     record {
-      settings = settings_of c zone;
+      outline = outline_of c.bytes zone;
+      layers = layer_set c.bytes c.copper (layer_list c.bytes zone);
+      net = net_of c.bytes zone;
+      priority = whole_in c.bytes (codes "priority") zone;
+      join = join_in c.bytes (list_of c.bytes (codes "connect_pads") zone);
+      clearance = size_of (clearance_in c.bytes zone);
+      thickness = size_of (thickness_in c.bytes zone);
+      gap = size_of (gap_in c.bytes zone);
+      bridge = size_of (bridge_in c.bytes zone);
+      keep_islands = mode_in c.bytes zone == 1;
       spans = spans_of c.bytes zone;
       span = span_of zone;
       line = line_of c.bytes zone.from;

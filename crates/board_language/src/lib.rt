@@ -9,8 +9,11 @@ ghost use Rattle.grid_num.specs.Faults.{HasFault};
 ghost use Rattle.grid_num.specs.declared.read.NumFault.{NumFault};
 ghost use Rattle.board_language.specs.Numbers.{length_fault, length_of};
 
+mod board;
 mod offence;
 
+pub use board::{Area, FillSpans, Pad, Rules, Track, Via, Zone, ZoneSpans};
+pub use copper_shape::Edge;
 pub use offence::OffenceKind;
 
 /// What a pad is.
