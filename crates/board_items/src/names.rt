@@ -1,0 +1,60 @@
+// Names in their order, to be looked up.
+ghost use Rattle.std.specs.Prelude.{◌≡◌, ◌++◌, ◌∷◌, [], length, map, OnOk, OnErr};
+ghost use Rattle.board_language.specs.Layers.{is_among, layer_number};
+
+use board_parts::has_text;
+use grid_num::Memory;
+use std::alloc::Global;
+use std::marker::Model;
+
+/// Names in their order. Contracts see the list.
+#[derive(Drop)]
+pub struct Names {
+    names: Vec<Vec<u8>>,
+}
+
+impl Model for Names {
+    ghost use Rattle.std.specs.Prelude.{ℕ, List, map};
+
+    ghost Value = { List (List ℕ) };
+
+    ghost view = { λ n. map (λ v. v.items) n.names.items };
+}
+
+impl Names {
+    /// No names.
+    pub fn new(alloc: Global) -> Names
+        ensures { result ≡ [] }
+    {
+        Names {
+            names: Vec::new(alloc),
+        }
+    }
+
+    /// Puts a name behind the others.
+    ///
+    /// # Errors
+    ///
+    /// Want of memory; the names are as they were.
+    pub fn push(&mut self, name: Vec<u8>) -> Result<(), Memory>
+        ensures ok { OnOk result (self.new ≡ self.old ++ name.items ∷ []) }
+        ensures err { OnErr result (self.new ≡ self.old) }
+    {
+        self.names.push(name)?;
+        Ok(())
+    }
+
+    /// How many there are.
+    pub fn len(&self) -> usize
+        ensures { result ≡ length self.now }
+    {
+        self.names.len()
+    }
+
+    /// Whether this is one of them.
+    pub fn has(&self, name: &[u8]) -> bool
+        ensures { result ≡ is_among self.now name.now }
+    {
+        has_text(&self.names, name)
+    }
+}
