@@ -3,15 +3,17 @@
 //! Lengths and places are nanometres, shapes are halves of a nanometre.
 #![tactic(auto)]
 
+mod lists;
 mod names;
 mod numbers;
+mod sizes;
 mod tests_of;
 mod track;
 
 pub use names::Names;
 pub use numbers::Numbers;
 pub use tests_of::{first_kind, number_kind, when};
-pub use track::track_fault;
+pub use track::{track_fault, track_lacks, via_fault};
 
 /// What holds for the whole board: its copper layers in their order, and its nets.
 #[derive(Drop)]

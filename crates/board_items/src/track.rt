@@ -1,15 +1,16 @@
-// Tracks.
-ghost use Rattle.std.specs.Prelude.{◌≡◌, ℕ, ◌≤◌, ◌∷◌, [], length, map, codes, IfOk};
-ghost use Rattle.grid_num.specs.Length.{IsInRange};
-ghost use Rattle.board_language.specs.Items.{line_of, size_of, is_no_size};
-ghost use Rattle.board_language.specs.Layers.{layer_number};
-ghost use Rattle.board_language.specs.Tracks.{track_of, track_fault, track_layer, layer_names, name_at};
+// Tracks and vias.
+ghost use Rattle.std.specs.Prelude.{◌≡◌, ℕ, ◌≤◌, ◌∷◌, [], ◌||◌, not, nat_lt, length, map, codes, IfOk};
+ghost use Rattle.board_language.specs.Items.{line_of, is_unknown_net, net_of};
+ghost use Rattle.board_language.specs.Tracks.{track_of, track_fault, via_of, via_fault, layer_names, name_at};
+ghost use Rattle.board_language.specs.Offences.{lacks, has_short, track_lacks, via_lacks, has_bad_size, track_kind, via_kind};
+
 ghost use Rattle.board_items.specs.Known.{context};
 
-ghost use Rattle.board_language.specs.Offences.{lacks};
-
 use crate::Known;
-use board_language::Track;
+use crate::lists::{has_short, lacks};
+use crate::sizes::is_no_size;
+use crate::tests_of::{first_kind, number_kind, when};
+use board_language::OffenceKind;
 use board_parts::{Part, first_of};
 use grid_num::{Memory, NumFault};
 use std::alloc::Global;
@@ -30,8 +31,23 @@ pub fn track_fault(alloc: Global, item: &Part<'_>) -> Result<Option<NumFault>, M
     Ok(first_of(&[start, end, width, net]))
 }
 
+/// The first of a via's numbers that can't be read.
+///
+/// # Errors
+///
+/// Want of memory.
+#[tactic(auto, unfolding(board_language::specs::Tracks::via_fault))]
+pub fn via_fault(alloc: Global, item: &Part<'_>) -> Result<Option<NumFault>, Memory>
+    ensures { IfOk result (λ f. f ≡ via_fault item.now.bytes item.now.item) }
+{
+    let at = item.point_fault_in(alloc, b"at")?;
+    let size = item.length_fault_in(alloc, b"size")?;
+    let net = item.whole_fault_in(alloc, b"net")?;
+    Ok(first_of(&[at, size, net]))
+}
+
 /// The contents of the names in the list with this head.
-fn layer_names(alloc: Global, item: &Part<'_>, head: &[u8]) -> Result<Vec<Vec<u8>>, Memory>
+pub fn layer_names(alloc: Global, item: &Part<'_>, head: &[u8]) -> Result<Vec<Vec<u8>>, Memory>
     ensures { IfOk result (λ v. map (λ t. t.items) v.items ≡ layer_names item.now.bytes head.now item.now.item) }
 {
     match item.list(head) {
@@ -41,7 +57,7 @@ fn layer_names(alloc: Global, item: &Part<'_>, head: &[u8]) -> Result<Vec<Vec<u8
 }
 
 /// The name at a place; the empty one where there is none.
-fn name_at(names: &[Vec<u8>], place: usize) -> &[u8]
+pub fn name_at(names: &[Vec<u8>], place: usize) -> &[u8]
     ensures { result.now ≡ name_at place (map (λ t. t.items) names.now) }
 {
     match names.get(place) {
@@ -50,9 +66,90 @@ fn name_at(names: &[Vec<u8>], place: usize) -> &[u8]
     }
 }
 
-/// Whether one of the lists with these heads isn't there.
-fn lacks_point(item: &Part<'_>) -> bool
+/// Whether a width or size is out of its range.
+pub fn has_bad_size(alloc: Global, item: &Part<'_>, name: &[u8]) -> Result<bool, Memory>
+    ensures { IfOk result (λ yes. yes ≡ has_bad_size item.now.bytes name.now item.now.item) }
+{
+    let size = item.length_in(alloc, name)?;
+    Ok(is_no_size(size))
+}
+
+fn track_lacks_lists(item: &Part<'_>) -> bool
     ensures { result ≡ lacks item.now.bytes (codes "start" ∷ codes "end" ∷ codes "width" ∷ []) item.now.item }
 {
-    !item.has(b"start") || !item.has(b"end") || !item.has(b"width")
+    let names: [&[u8]; 3] = [b"start", b"end", b"width"];
+    lacks(item, &names)
+}
+
+fn track_is_short(item: &Part<'_>) -> bool
+    ensures { result ≡ (has_short item.now.bytes 2 (codes "start" ∷ codes "end" ∷ []) item.now.item || has_short item.now.bytes 1 (codes "width" ∷ codes "net" ∷ []) item.now.item) }
+{
+    let points: [&[u8]; 2] = [b"start", b"end"];
+    let numbers: [&[u8]; 2] = [b"width", b"net"];
+    has_short(item, 2, &points) || has_short(item, 1, &numbers)
+}
+
+/// Whether a track lacks a part.
+pub fn track_lacks(alloc: Global, item: &Part<'_>) -> Result<bool, Memory>
+    ensures { IfOk result (λ yes. yes ≡ track_lacks item.now.bytes item.now.item) }
+{
+    let names = layer_names(alloc, item, b"layer")?;
+    Ok(track_lacks_lists(item) || names.len() < 1 || track_is_short(item))
+}
+
+fn via_lacks_lists(item: &Part<'_>) -> bool
+    ensures { result ≡ lacks item.now.bytes (codes "at" ∷ codes "size" ∷ []) item.now.item }
+{
+    let names: [&[u8]; 2] = [b"at", b"size"];
+    lacks(item, &names)
+}
+
+fn via_is_short(item: &Part<'_>) -> bool
+    ensures { result ≡ (has_short item.now.bytes 2 (codes "at" ∷ []) item.now.item || has_short item.now.bytes 1 (codes "size" ∷ codes "net" ∷ []) item.now.item) }
+{
+    let points: [&[u8]; 1] = [b"at"];
+    let numbers: [&[u8]; 2] = [b"size", b"net"];
+    has_short(item, 2, &points) || has_short(item, 1, &numbers)
+}
+
+/// Whether a via lacks a part.
+pub fn via_lacks(alloc: Global, item: &Part<'_>) -> Result<bool, Memory>
+    ensures { IfOk result (λ yes. yes ≡ via_lacks item.now.bytes item.now.item) }
+{
+    let names = layer_names(alloc, item, b"layers")?;
+    Ok(via_lacks_lists(item) || names.len() < 2 || via_is_short(item))
+}
+
+/// Whether a net other than 0 isn't declared.
+pub fn is_unknown_net(alloc: Global, known: &Known, item: &Part<'_>) -> Result<bool, Memory>
+    ensures { IfOk result (λ yes. yes ≡ is_unknown_net (context item.now.bytes known.now) (net_of item.now.bytes item.now.item)) }
+{
+    let net = item.whole_in(alloc, b"net")?;
+    Ok(net != 0 && !known.nets.has(net))
+}
+
+/// The first offence of a track, with another of its stamp before or not, and one too many or not.
+///
+/// # Errors
+///
+/// Want of memory.
+#[tactic(auto, unfolding(board_language::specs::Offences::track_kind))]
+pub fn track_kind(alloc: Global, known: &Known, item: &Part<'_>, double: bool, many: bool) -> Result<Option<OffenceKind>, Memory>
+    ensures { IfOk result (λ k. k ≡ track_kind (context item.now.bytes known.now) item.now.item double many) }
+{
+    let lacks = track_lacks(alloc, item)?;
+    let fault = track_fault(alloc, item)?;
+    let bad = has_bad_size(alloc, item, b"width")?;
+    let names = layer_names(alloc, item, b"layer")?;
+    let layer = known.copper.has(name_at(&names, 0));
+    let net = is_unknown_net(alloc, known, item)?;
+    Ok(first_kind(&[
+        when(OffenceKind::MissingPart, lacks),
+        number_kind(fault),
+        when(OffenceKind::BadSize, bad),
+        when(OffenceKind::UnknownLayer, !layer),
+        when(OffenceKind::UnknownNet, net),
+        when(OffenceKind::DoubleStamp, double),
+        when(OffenceKind::TooMany, many),
+    ]))
 }

@@ -105,13 +105,18 @@ abbrev pub is_declared_among : List ℕ → Option ℕ → Bool
 is_declared_among nets None = false
 is_declared_among nets (Some n) = has_number nets n
 
-unfoldable pub net_kind : Context → List Placed → Placed → Option OffenceKind
-net_kind c before p =
+-- another net of this number stands at a lesser place
+abbrev pub is_double_net : Context → List Placed → Item → Bool
+is_double_net c before net = is_declared_among (nets_among c.bytes before) (declared_net c.bytes net)
+
+-- of a net, that is declared before or not, and one too many or not
+unfoldable pub net_kind : Context → Item → Bool → Bool → Option OffenceKind
+net_kind c net double many =
     first_kind (
-    when kinds.MissingPart (is_short 1 (Some p.item))
-    ∷ number (whole_fault_at c.bytes 0 (Some p.item))
-    ∷ when kinds.DoubleNet (is_declared_among (nets_among c.bytes before) (declared_net c.bytes p.item))
-    ∷ when kinds.TooMany (is_one_too_many c before p)
+    when kinds.MissingPart (is_short 1 (Some net))
+    ∷ number (whole_fault_at c.bytes 0 (Some net))
+    ∷ when kinds.DoubleNet double
+    ∷ when kinds.TooMany many
     ∷ [])
 
 -- ---- stamps
@@ -149,16 +154,17 @@ track_lacks bytes item =
     || (nat_lt (length (layer_names bytes (codes "layer") item)) 1
     || (has_short bytes 2 (codes "start" ∷ codes "end" ∷ []) item || has_short bytes 1 (codes "width" ∷ codes "net" ∷ []) item))
 
-unfoldable pub track_kind : Context → List Placed → Placed → Option OffenceKind
-track_kind c before p =
+-- of a track, with another of its stamp before or not, and one too many or not
+unfoldable pub track_kind : Context → Item → Bool → Bool → Option OffenceKind
+track_kind c item double many =
     first_kind (
-    when kinds.MissingPart (track_lacks c.bytes p.item)
-    ∷ number (track_fault c.bytes p.item)
-    ∷ when kinds.BadSize (has_bad_size c.bytes (codes "width") p.item)
-    ∷ when kinds.UnknownLayer (not (is_among c.copper (track_layer c.bytes p.item)))
-    ∷ when kinds.UnknownNet (is_unknown_net c (net_of c.bytes p.item))
-    ∷ when kinds.DoubleStamp (is_double_stamp c before p.item)
-    ∷ when kinds.TooMany (is_one_too_many c before p)
+    when kinds.MissingPart (track_lacks c.bytes item)
+    ∷ number (track_fault c.bytes item)
+    ∷ when kinds.BadSize (has_bad_size c.bytes (codes "width") item)
+    ∷ when kinds.UnknownLayer (not (is_among c.copper (track_layer c.bytes item)))
+    ∷ when kinds.UnknownNet (is_unknown_net c (net_of c.bytes item))
+    ∷ when kinds.DoubleStamp double
+    ∷ when kinds.TooMany many
     ∷ [])
 
 abbrev pub via_lacks : List ℕ → Item → Bool
@@ -167,16 +173,16 @@ via_lacks bytes item =
     || (nat_lt (length (layer_names bytes (codes "layers") item)) 2
     || (has_short bytes 2 (codes "at" ∷ []) item || has_short bytes 1 (codes "size" ∷ codes "net" ∷ []) item))
 
-unfoldable pub via_kind : Context → List Placed → Placed → Option OffenceKind
-via_kind c before p =
+unfoldable pub via_kind : Context → Item → Bool → Bool → Option OffenceKind
+via_kind c item double many =
     first_kind (
-    when kinds.MissingPart (via_lacks c.bytes p.item)
-    ∷ number (via_fault c.bytes p.item)
-    ∷ when kinds.BadSize (has_bad_size c.bytes (codes "size") p.item)
-    ∷ when kinds.UnknownLayer (not (is_among c.copper (via_layer c.bytes 0 p.item) && is_among c.copper (via_layer c.bytes 1 p.item)))
-    ∷ when kinds.UnknownNet (is_unknown_net c (net_of c.bytes p.item))
-    ∷ when kinds.DoubleStamp (is_double_stamp c before p.item)
-    ∷ when kinds.TooMany (is_one_too_many c before p)
+    when kinds.MissingPart (via_lacks c.bytes item)
+    ∷ number (via_fault c.bytes item)
+    ∷ when kinds.BadSize (has_bad_size c.bytes (codes "size") item)
+    ∷ when kinds.UnknownLayer (not (is_among c.copper (via_layer c.bytes 0 item) && is_among c.copper (via_layer c.bytes 1 item)))
+    ∷ when kinds.UnknownNet (is_unknown_net c (net_of c.bytes item))
+    ∷ when kinds.DoubleStamp double
+    ∷ when kinds.TooMany many
     ∷ [])
 
 -- ---- footprints and pads
@@ -250,19 +256,19 @@ pad_is_bad bytes pad =
     || (is_bad_length bytes (bridge_list bytes pad) || is_bad_connect bytes pad)))))
 
 -- of a pad that is read, in a footprint
-unfoldable pub pad_kind : Context → List Placed → Item → Placed → Option OffenceKind
-pad_kind c before footprint p =
+unfoldable pub pad_kind : Context → Item → Item → Bool → Option OffenceKind
+pad_kind c footprint pad many =
     first_kind (
-    when kinds.PadType (not (list_any (λ name. is_type c.bytes name p.item) pad_types))
-    ∷ when kinds.PadShape (not (list_any (λ name. is_shape c.bytes name p.item) pad_shapes) || is_chamfered c.bytes p.item)
-    ∷ when kinds.PadOffset (is_off_hole c.bytes p.item)
-    ∷ when kinds.MissingPart (pad_lacks c.bytes p.item)
-    ∷ number (pad_fault c.bytes footprint p.item)
-    ∷ when kinds.Angle (not (has_angle c.bytes p.item))
-    ∷ when kinds.BadSize (pad_is_bad c.bytes p.item)
-    ∷ when kinds.UnknownLayer (has_unknown c.bytes c.copper (list_of c.bytes (codes "layers") p.item))
-    ∷ when kinds.UnknownNet (is_unknown_net c (net_of c.bytes p.item))
-    ∷ when kinds.TooMany (is_one_too_many c before p)
+    when kinds.PadType (not (list_any (λ name. is_type c.bytes name pad) pad_types))
+    ∷ when kinds.PadShape (not (list_any (λ name. is_shape c.bytes name pad) pad_shapes) || is_chamfered c.bytes pad)
+    ∷ when kinds.PadOffset (is_off_hole c.bytes pad)
+    ∷ when kinds.MissingPart (pad_lacks c.bytes pad)
+    ∷ number (pad_fault c.bytes footprint pad)
+    ∷ when kinds.Angle (not (has_angle c.bytes pad))
+    ∷ when kinds.BadSize (pad_is_bad c.bytes pad)
+    ∷ when kinds.UnknownLayer (has_unknown c.bytes c.copper (list_of c.bytes (codes "layers") pad))
+    ∷ when kinds.UnknownNet (is_unknown_net c (net_of c.bytes pad))
+    ∷ when kinds.TooMany many
     ∷ [])
 
 -- ---- zones and rule areas
@@ -300,17 +306,17 @@ abbrev pub bad_outline : Option OutlineFault → Option OffenceKind
 bad_outline fault = option_map kinds.Outline fault
 
 -- of a rule area that is read: its layers and its outline alone
-unfoldable pub area_kind : Context → List Placed → Placed → Option OutlineFault → Option OffenceKind
-area_kind c before p outline =
+unfoldable pub area_kind : Context → Item → Option OutlineFault → Bool → Bool → Option OffenceKind
+area_kind c zone outline double many =
     first_kind (
-    when kinds.ManyOutlines (has_two_outlines c.bytes p.item)
-    ∷ when kinds.PolygonArc (has_arc c.bytes p.item)
-    ∷ when kinds.MissingPart (outline_lacks c.bytes p.item)
-    ∷ number (zones.corners_fault c.bytes p.item)
-    ∷ when kinds.UnknownLayer (has_unknown c.bytes c.copper (zones.layer_list c.bytes p.item))
-    ∷ when kinds.DoubleStamp (is_double_stamp c before p.item)
+    when kinds.ManyOutlines (has_two_outlines c.bytes zone)
+    ∷ when kinds.PolygonArc (has_arc c.bytes zone)
+    ∷ when kinds.MissingPart (outline_lacks c.bytes zone)
+    ∷ number (zones.corners_fault c.bytes zone)
+    ∷ when kinds.UnknownLayer (has_unknown c.bytes c.copper (zones.layer_list c.bytes zone))
+    ∷ when kinds.DoubleStamp double
     ∷ bad_outline outline
-    ∷ when kinds.TooMany (is_one_too_many c before p || is_long_outline c.bytes p.item)
+    ∷ when kinds.TooMany (many || is_long_outline c.bytes zone)
     ∷ [])
 
 -- an island mode other than 0 and 1, where it can be read
@@ -332,40 +338,40 @@ zone_is_bad bytes zone =
     list_any is_no_length (zones.clearance_in bytes zone ∷ zones.thickness_in bytes zone ∷ zones.gap_in bytes zone ∷ zones.bridge_in bytes zone ∷ [])
 
 -- of a zone that is read
-unfoldable pub zone_kind : Context → List Placed → Placed → Option OutlineFault → Option OffenceKind
-zone_kind c before p outline =
+unfoldable pub zone_kind : Context → Item → Option OutlineFault → Bool → Bool → Option OffenceKind
+zone_kind c zone outline double many =
     first_kind (
-    when kinds.Teardrop (has_teardrop c.bytes p.item)
-    ∷ when kinds.HatchFill (is_hatched c.bytes p.item)
-    ∷ when kinds.Smoothing (is_smoothed c.bytes p.item)
-    ∷ when kinds.IslandArea (has_other_mode c.bytes p.item)
-    ∷ when kinds.ManyOutlines (has_two_outlines c.bytes p.item)
-    ∷ when kinds.PolygonArc (has_arc c.bytes p.item)
-    ∷ when kinds.MissingPart (zone_lacks c.bytes p.item)
-    ∷ number (zones.zone_fault c.bytes p.item)
-    ∷ when kinds.BadSize (zone_is_bad c.bytes p.item)
-    ∷ when kinds.Thin (nat_lt (size_of (zones.thickness_in c.bytes p.item)) 1000)
-    ∷ when kinds.UnknownLayer (has_unknown c.bytes c.copper (zones.layer_list c.bytes p.item))
-    ∷ when kinds.UnknownNet (is_unknown_net c (net_of c.bytes p.item))
-    ∷ when kinds.DoubleStamp (is_double_stamp c before p.item)
+    when kinds.Teardrop (has_teardrop c.bytes zone)
+    ∷ when kinds.HatchFill (is_hatched c.bytes zone)
+    ∷ when kinds.Smoothing (is_smoothed c.bytes zone)
+    ∷ when kinds.IslandArea (has_other_mode c.bytes zone)
+    ∷ when kinds.ManyOutlines (has_two_outlines c.bytes zone)
+    ∷ when kinds.PolygonArc (has_arc c.bytes zone)
+    ∷ when kinds.MissingPart (zone_lacks c.bytes zone)
+    ∷ number (zones.zone_fault c.bytes zone)
+    ∷ when kinds.BadSize (zone_is_bad c.bytes zone)
+    ∷ when kinds.Thin (nat_lt (size_of (zones.thickness_in c.bytes zone)) 1000)
+    ∷ when kinds.UnknownLayer (has_unknown c.bytes c.copper (zones.layer_list c.bytes zone))
+    ∷ when kinds.UnknownNet (is_unknown_net c (net_of c.bytes zone))
+    ∷ when kinds.DoubleStamp double
     ∷ bad_outline outline
-    ∷ when kinds.TooMany (is_one_too_many c before p || is_long_outline c.bytes p.item)
+    ∷ when kinds.TooMany (many || is_long_outline c.bytes zone)
     ∷ [])
 
 -- of a zone or rule area that isn't read the stamp counts alone
-abbrev pub stamp_kind : Context → List Placed → Placed → Option OffenceKind
-stamp_kind c before p = when kinds.DoubleStamp (is_double_stamp c before p.item)
+abbrev pub stamp_kind : Bool → Option OffenceKind
+stamp_kind double = when kinds.DoubleStamp double
 
 -- ---- drawings
 
-unfoldable pub drawing_kind : Context → List Placed → Placed → Option OffenceKind
-drawing_kind c before p =
+unfoldable pub drawing_kind : Context → Item → Bool → Option OffenceKind
+drawing_kind c item many =
     first_kind (
-    when kinds.CopperGraphic (is_on_copper c.bytes p.item)
-    ∷ when kinds.EdgeCurve (is_edge c.bytes p.item && is_curved c.bytes p.item)
-    ∷ when kinds.MissingPart (is_edge c.bytes p.item && lacks_points c.bytes p.item)
-    ∷ number (cond (is_edge c.bytes p.item) (edge_fault c.bytes p.item) None)
-    ∷ when kinds.TooMany (is_one_too_many c before p)
+    when kinds.CopperGraphic (is_on_copper c.bytes item)
+    ∷ when kinds.EdgeCurve (is_edge c.bytes item && is_curved c.bytes item)
+    ∷ when kinds.MissingPart (is_edge c.bytes item && lacks_points c.bytes item)
+    ∷ number (cond (is_edge c.bytes item) (edge_fault c.bytes item) None)
+    ∷ when kinds.TooMany many
     ∷ [])
 
 unfoldable pub footprint_drawing_kind : Context → Item → Option OffenceKind
@@ -388,15 +394,15 @@ has_layers c before = list_any (λ p. is_layers (thing_of c.bytes p)) before
 abbrev pub kind_as : Context → List Placed → Placed → Option OutlineFault → Thing → Option OffenceKind
 kind_as c before p outline Board = board_kind c p.item
 kind_as c before p outline Layers = cond (has_layers c before) None (layers_kind c p.item)
-kind_as c before p outline Net = net_kind c before p
-kind_as c before p outline Track = track_kind c before p
+kind_as c before p outline Net = net_kind c p.item (is_double_net c before p.item) (is_one_too_many c before p)
+kind_as c before p outline Track = track_kind c p.item (is_double_stamp c before p.item) (is_one_too_many c before p)
 kind_as c before p outline CurvedTrack = Some kinds.CurvedTrack
-kind_as c before p outline Via = via_kind c before p
+kind_as c before p outline Via = via_kind c p.item (is_double_stamp c before p.item) (is_one_too_many c before p)
 kind_as c before p outline Footprint = footprint_kind c p.item
-kind_as c before p outline (Pad footprint) = cond (is_read_pad c p.item) (pad_kind c before footprint p) None
-kind_as c before p outline Zone = cond (zones.is_read_zone c p.item) (zone_kind c before p outline) (stamp_kind c before p)
-kind_as c before p outline RuleArea = cond (zones.is_read_area c p.item) (area_kind c before p outline) (stamp_kind c before p)
-kind_as c before p outline Drawing = drawing_kind c before p
+kind_as c before p outline (Pad footprint) = cond (is_read_pad c p.item) (pad_kind c footprint p.item (is_one_too_many c before p)) None
+kind_as c before p outline Zone = cond (zones.is_read_zone c p.item) (zone_kind c p.item outline (is_double_stamp c before p.item) (is_one_too_many c before p)) (stamp_kind (is_double_stamp c before p.item))
+kind_as c before p outline RuleArea = cond (zones.is_read_area c p.item) (area_kind c p.item outline (is_double_stamp c before p.item) (is_one_too_many c before p)) (stamp_kind (is_double_stamp c before p.item))
+kind_as c before p outline Drawing = drawing_kind c p.item (is_one_too_many c before p)
 kind_as c before p outline FootprintDrawing = footprint_drawing_kind c p.item
 kind_as c before p outline FootprintZone = Some kinds.FootprintZone
 kind_as c before p outline Other = None
