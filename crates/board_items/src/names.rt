@@ -1,5 +1,5 @@
 // Names in their order, to be looked up.
-ghost use Rattle.std.specs.Prelude.{◌≡◌, ◌++◌, ◌∷◌, [], length, map, OnOk, OnErr};
+ghost use Rattle.std.specs.Prelude.{◌≡◌, ◌≤◌, ◌++◌, ◌∷◌, [], length, map, OnOk, OnErr};
 ghost use Rattle.board_language.specs.Layers.{is_among, layer_number};
 
 use board_parts::has_text;
@@ -57,4 +57,26 @@ impl Names {
     {
         has_text(&self.names, name)
     }
+
+    /// How many of them stand before a name; all where it isn't one of them.
+    pub fn number(&self, name: &[u8]) -> u8
+        requires { length self.now ≤ 32 }
+        ensures { result ≡ layer_number self.now name.now }
+    {
+        place_of(&self.names, name) as u8
+    }
+}
+
+fn place_of(names: &[Vec<u8>], name: &[u8]) -> usize
+    ensures value { result ≡ layer_number (map (λ v. v.items) names.now) name.now }
+    ensures within { result ≤ length names.now }
+{
+    let mut place = 0;
+    'each: for other in names {
+        if other.as_slice() == name {
+            return place;
+        }
+        place += 1;
+    }
+    place
 }

@@ -8,9 +8,9 @@ ghost use Rattle.board_items.specs.Known.{context};
 
 use crate::Known;
 use crate::lists::{has_short, lacks};
-use crate::sizes::is_no_size;
+use crate::sizes::{is_no_size, size_of};
 use crate::tests_of::{first_kind, number_kind, when};
-use board_language::OffenceKind;
+use board_language::{OffenceKind, Track};
 use board_parts::{Part, first_of};
 use grid_num::{Memory, NumFault};
 use std::alloc::Global;
@@ -152,4 +152,54 @@ pub fn track_kind(alloc: Global, known: &Known, item: &Part<'_>, double: bool, m
         when(OffenceKind::DoubleStamp, double),
         when(OffenceKind::TooMany, many),
     ]))
+}
+
+/// The first offence of a via, with another of its stamp before or not, and one too many or not.
+///
+/// # Errors
+///
+/// Want of memory.
+#[tactic(auto, unfolding(board_language::specs::Offences::via_kind))]
+pub fn via_kind(alloc: Global, known: &Known, item: &Part<'_>, double: bool, many: bool) -> Result<Option<OffenceKind>, Memory>
+    ensures { IfOk result (λ k. k ≡ via_kind (context item.now.bytes known.now) item.now.item double many) }
+{
+    let lacks = via_lacks(alloc, item)?;
+    let fault = via_fault(alloc, item)?;
+    let bad = has_bad_size(alloc, item, b"size")?;
+    let names = layer_names(alloc, item, b"layers")?;
+    let layers = known.copper.has(name_at(&names, 0)) && known.copper.has(name_at(&names, 1));
+    let net = is_unknown_net(alloc, known, item)?;
+    Ok(first_kind(&[
+        when(OffenceKind::MissingPart, lacks),
+        number_kind(fault),
+        when(OffenceKind::BadSize, bad),
+        when(OffenceKind::UnknownLayer, !layers),
+        when(OffenceKind::UnknownNet, net),
+        when(OffenceKind::DoubleStamp, double),
+        when(OffenceKind::TooMany, many),
+    ]))
+}
+
+/// The track that is read of an item on this line, of a board with at most 32 copper layers.
+///
+/// # Errors
+///
+/// Want of memory.
+#[tactic(auto, unfolding(board_language::specs::Tracks::track_of))]
+pub fn track_of(alloc: Global, known: &Known, item: &Part<'_>, line: u64) -> Result<Track, Memory>
+    requires few { length known.now.copper ≤ 32 }
+    requires line { line ≡ line_of item.now.bytes item.now.item.from }
+    ensures { IfOk result (λ t. t ≡ track_of (context item.now.bytes known.now) item.now.item) }
+{
+    let names = layer_names(alloc, item, b"layer")?;
+    let width = item.length_in(alloc, b"width")?;
+    Ok(Track {
+        from: item.point_in(alloc, b"start")?,
+        to: item.point_in(alloc, b"end")?,
+        width: size_of(width),
+        layer: known.copper.number(name_at(&names, 0)),
+        net: item.whole_in(alloc, b"net")?,
+        span: item.span(),
+        line,
+    })
 }

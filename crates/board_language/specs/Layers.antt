@@ -1,6 +1,6 @@
 -- Layers: which a board declares, which are of copper, and which a list of layers names.
-use Rattle.std.specs.Prelude.{ℕ, zero, suc, ◌+◌, ◌*◌, Bool, true, false, not, ◌&&◌, ◌||◌, ◌==◌, nat_eq, nat_le, nat_lt, cond, is_some, if◌then◌else◌, List, [], ◌∷◌, map, filter, filter_map, flat_map, length, codes, Option, None, Some, position}
-use Rattle.std.specs.List.{ends_with, list_any, list_all}
+use Rattle.std.specs.Prelude.{ℕ, zero, suc, ◌+◌, ◌*◌, Bool, true, false, not, ◌&&◌, ◌||◌, ◌==◌, nat_eq, nat_le, nat_lt, cond, is_some, if◌then◌else◌, List, [], ◌∷◌, map, filter, filter_map, flat_map, length, codes, Option, None, Some}
+use Rattle.std.specs.List.{ends_with, list_any, prefix_len}
 use Rattle.std.specs.Str.{bytes_eq}
 use Rattle.sexpr_text.specs.Items.{Item, children_of}
 use Rattle.board_fields.specs.Lists.{is_list, is_string, lists_of}
@@ -85,13 +85,9 @@ abbrev pub names_of : List ℕ → Option Item → List Name
 names_of bytes None = []
 names_of bytes (Some list) = texts_of bytes list
 
--- the number of the named layer
+-- the number of the named layer: how many stand before it
 abbrev pub layer_number : List Name → Name → ℕ
-layer_number copper name = place_or (position (λ other. bytes_eq other name) copper)
-  where
-    place_or : Option ℕ → ℕ
-    place_or None = 0
-    place_or (Some place) = place
+layer_number copper name = prefix_len (λ other. not (bytes_eq other name)) copper
 
 -- n is between the two, in either order
 abbrev pub is_between : ℕ → ℕ → ℕ → Bool
