@@ -6,14 +6,23 @@
 mod lists;
 mod names;
 mod numbers;
+mod root;
 mod sizes;
 mod tests_of;
+mod thing;
 mod track;
 
+pub use lists::{has_bad_length, has_short, is_bad_length, lacks};
 pub use names::Names;
 pub use numbers::Numbers;
+pub use root::{board_kind, declared_net, net_kind, stamp_in};
+pub use sizes::{is_no_length, is_no_size, size_of};
 pub use tests_of::{first_kind, number_kind, when};
-pub use track::{track_fault, track_lacks, via_fault};
+pub use thing::{Own, Thing, thing_in_footprint, thing_on_board};
+pub use track::{
+    has_bad_size, is_unknown_net, layer_names, name_at, track_fault, track_kind, track_of,
+    via_fault, via_kind,
+};
 
 /// What holds for the whole board: its copper layers in their order, and its nets.
 #[derive(Drop)]

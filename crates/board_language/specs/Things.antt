@@ -53,6 +53,12 @@ abbrev pub is_picture : List ℕ → Item → Bool
 is_picture bytes item =
     is_headed bytes (codes "dimension") item || (is_headed bytes (codes "target") item || is_headed bytes (codes "image") item)
 
+abbrev pub zone_thing : List ℕ → Item → Thing
+zone_thing bytes item = cond (has_list bytes (codes "keepout") item) RuleArea Zone
+
+abbrev pub drawing_thing : List ℕ → Item → Thing
+drawing_thing bytes item = cond (head_begins bytes (codes "gr_") item || is_picture bytes item) Drawing Other
+
 abbrev pub on_board : List ℕ → Item → Thing
 on_board bytes item =
     if is_headed bytes (codes "layers") item then Layers
@@ -61,8 +67,7 @@ on_board bytes item =
     else (if is_headed bytes (codes "arc") item then CurvedTrack
     else (if is_headed bytes (codes "via") item then Via
     else (if is_headed bytes (codes "footprint") item then Footprint
-    else (if is_headed bytes (codes "zone") item then cond (has_list bytes (codes "keepout") item) RuleArea Zone
-    else (if head_begins bytes (codes "gr_") item || is_picture bytes item then Drawing else Other)))))))
+    else (if is_headed bytes (codes "zone") item then zone_thing bytes item else drawing_thing bytes item))))))
 
 abbrev pub of_footprint : List ℕ → Item → Item → Thing
 of_footprint bytes footprint item =

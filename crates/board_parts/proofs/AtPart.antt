@@ -1,12 +1,13 @@
 -- What holds of the item that a node is, holds of the item that is built from the node.
-use Rattle.std.proofs.Common.{◌≡◌, ℕ, zero, suc, ◌+◌, ◌<◌, List, [], ◌∷◌, length, map, get_or, refl, sym, ap, ◌∙◌, arith, Option, Some, None, option_map, find, Bool, true, false, cond, ◌⊎◌, inl, inr, slice_range}
+use Rattle.std.proofs.Common.{◌≡◌, ℕ, zero, suc, ◌+◌, ◌<◌, List, [], ◌∷◌, length, map, get_or, refl, sym, ap, ◌∙◌, arith, Option, Some, None, option_map, find, Bool, true, false, cond, ◌⊎◌, inl, inr, slice_range, nat_eq}
 use Rattle.std.specs.Str.{bytes_eq}
+use Rattle.std.specs.List.{starts_with}
 use Rattle.sexpr_text.specs.Items.{Item, children_of, content_of, head_of, is_headed, is_name}
 use Rattle.sexpr_text.specs.declared.Span.{Span}
 use Rattle.sexpr_text.specs.declared.NodeKind.{NodeKind}
 use Rattle.sexpr_text.specs.declared.NodeKind.TheVariants as kinds
 use Rattle.board_fields.specs.Lists.{is_list_kind}
-use Rattle.board_language.specs.Fields.{list_of, text_of}
+use Rattle.board_language.specs.Fields.{list_of, text_of, text_from, head_begins}
 use Rattle.sexpr_text.specs.Flat.{Shown, IsNode, AreNodes, IsNodeOrNone}
 use Rattle.text_items.specs.Parts.{IsPart, Part, part_of, item_at}
 use Rattle.text_items.proofs.ItemAt.{item_is, is_node_at}
@@ -85,3 +86,13 @@ some_text bytes nodes id kind text p e h t =
     let i : Item = item_at nodes id in
     let n : IsNode nodes id i = is_node_at bytes nodes id p.tree p.below in
     ap (λ x. Some x) (t i n) ∙ ap (λ b. cond b None (Some (content_of bytes i))) (sym (leaf_kind kind e) ∙ ap is_list_kind (h i n))
+
+pub begins_some : (bytes front : List ℕ) (nodes : List Shown) (id : ℕ) (found : Option Span) (head : Span) (same : Bool) → IsPart bytes nodes id → found ≡ Some head
+    → ((item : Item) → IsNode nodes id item → found ≡ head_of item) → same ≡ starts_with nat_eq (slice_range bytes head.from head.to) front → same ≡ head_begins bytes front (item_at nodes id)
+begins_some bytes front nodes id found head same p e h s =
+    s ∙ ap (λ o. starts_with nat_eq (text_from bytes o) front) (sym e ∙ h (item_at nodes id) (is_node_at bytes nodes id p.tree p.below))
+
+pub begins_none : (bytes front : List ℕ) (nodes : List Shown) (id : ℕ) (found : Option Span) (same : Bool) → IsPart bytes nodes id → found ≡ None
+    → ((item : Item) → IsNode nodes id item → found ≡ head_of item) → same ≡ starts_with nat_eq [] front → same ≡ head_begins bytes front (item_at nodes id)
+begins_none bytes front nodes id found same p e h s =
+    s ∙ ap (λ o. starts_with nat_eq (text_from bytes o) front) (sym e ∙ h (item_at nodes id) (is_node_at bytes nodes id p.tree p.below))

@@ -4,7 +4,7 @@ ghost use Rattle.sexpr_text.specs.Items.{Item, IsLeafKind, children_of, is_heade
 ghost use Rattle.sexpr_text.specs.Trees.{IsTreeOf, IsTreeAt};
 ghost use Rattle.board_fields.specs.Lists.{is_list, lists_of};
 ghost use Rattle.board_fields.specs.Values.{behind_head};
-ghost use Rattle.board_language.specs.Fields.{list_of, list_in, text_of};
+ghost use Rattle.board_language.specs.Fields.{list_of, list_in, text_of, head_begins};
 ghost use Rattle.text_items.specs.Parts.{part_of, item_at};
 
 use grid_num::Memory;
@@ -124,6 +124,16 @@ impl<'a> Part<'a> {
         match self.tree.head(self.bytes, self.id) {
             Some(head) => &self.bytes[head.from..head.to] == name,
             None => false,
+        }
+    }
+
+    /// Whether the head of the list begins with this.
+    pub fn begins(&self, front: &[u8]) -> bool
+        ensures { result ≡ head_begins self.now.bytes front.now self.now.item }
+    {
+        match self.tree.head(self.bytes, self.id) {
+            Some(head) => self.bytes[head.from..head.to].starts_with(front),
+            None => b"".starts_with(front),
         }
     }
 
