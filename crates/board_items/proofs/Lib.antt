@@ -1,2 +1,3 @@
 pub mod FirstKind
 pub mod Before
+pub mod Faults

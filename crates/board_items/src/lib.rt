@@ -3,18 +3,22 @@
 //! Lengths and places are nanometres, shapes are halves of a nanometre.
 #![tactic(auto)]
 
+mod layers;
 mod lists;
 mod names;
 mod numbers;
+mod points;
 mod root;
 mod sizes;
 mod tests_of;
 mod thing;
 mod track;
 
+pub use layers::{is_copper, is_on_copper, is_on_edge};
 pub use lists::{has_bad_length, has_short, is_bad_length, lacks};
 pub use names::Names;
 pub use numbers::Numbers;
+pub use points::{has_other_point, has_short_point, points_fault, points_of};
 pub use root::{board_kind, declared_net, net_kind, stamp_in};
 pub use sizes::{is_no_length, is_no_size, size_of};
 pub use tests_of::{first_kind, number_kind, when};
