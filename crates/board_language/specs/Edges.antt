@@ -4,7 +4,7 @@
 --     (gr_rect (start 0 0) (end 10 5) (layer "Edge.Cuts"))
 --     (gr_arc (start 0 2) (mid 0.6 0.6) (end 2 0) (layer "Edge.Cuts"))
 --     (gr_poly (pts (xy 0 0) (xy 10 0) (xy 10 5)) (layer "Edge.Cuts"))
-use Rattle.std.specs.Prelude.{ℕ, Bool, true, false, not, ◌&&◌, ◌||◌, int_lt, if◌then◌else◌, List, [], ◌∷◌, ◌++◌, map, flat_map, length, codes, is_some, Option, None, Some, ℤ, pos, ◌+ℤ◌, ◌-ℤ◌, ◌*ℤ◌}
+use Rattle.std.specs.Prelude.{ℕ, Bool, true, false, not, ◌&&◌, ◌||◌, int_lt, if◌then◌else◌, List, [], ◌∷◌, ◌++◌, map, flat_map, length, codes, is_some, slice_index_or, Option, None, Some, ℤ, pos, ◌+ℤ◌, ◌-ℤ◌, ◌*ℤ◌}
 use Rattle.std.specs.List.{list_any}
 use Rattle.grid_num.specs.declared.Point.{Point}
 use Rattle.grid_num.specs.declared.read.NumFault.{NumFault}
@@ -14,19 +14,13 @@ use Rattle.board_language.specs.Fields.{list_of, has_list, head_begins}
 use Rattle.board_language.specs.Numbers.{first_of, point_fault, is_short}
 use Rattle.board_language.specs.Layers.{is_drawn_on, is_edge_name, is_copper}
 use Rattle.copper_shape.specs.declared.edge.Edge.{Edge}
+use Rattle.board_language.specs.declared.EdgeForm.{EdgeForm}
+use Rattle.board_language.specs.declared.EdgeForm.TheVariants.{Line, Rectangle, Arc, Polygon, Other}
 use Rattle.board_language.specs.Items.{Context, point_at, point_in}
 use Rattle.board_language.specs.Zones.{lists_in}
 
 -- what kind of edge a drawing is
-pub data Form : Type 0 where
-  Line : Form
-  Rectangle : Form
-  Arc : Form
-  Polygon : Form
-  -- a circle, a curve, a text and whatever else
-  Other : Form
-
-abbrev pub form_of : List ℕ → Item → Form
+abbrev pub form_of : List ℕ → Item → EdgeForm
 form_of bytes item =
     if is_headed bytes (codes "gr_line") item then Line
     else (if is_headed bytes (codes "gr_rect") item then Rectangle
@@ -45,15 +39,15 @@ is_on_copper bytes item = is_drawn_on is_copper bytes item
 abbrev pub straight : Point → Point → Edge
 straight a b = record { from = a; to = b; bow = false }
 
--- the sides from a on along the corners, the last one to z
-abbrev pub sides_to : Point → Point → List Point → List Edge
-sides_to z a [] = straight a z ∷ []
-sides_to z a (b ∷ cs) = straight a b ∷ sides_to z b cs
+-- the sides from each of the corners to the next, from the last one to z
+unfoldable pub sides_to : Point → List Point → List Edge
+sides_to z [] = []
+sides_to z (a ∷ cs) = straight a (slice_index_or cs 0 z) ∷ sides_to z cs
 
 -- a polygon closes itself; without points it has no side, and with one it has the one from the point to itself
 unfoldable pub sides_of : List Point → List Edge
 sides_of [] = []
-sides_of (a ∷ cs) = sides_to a a cs
+sides_of (a ∷ cs) = sides_to a (a ∷ cs)
 
 -- the corners of the rectangle from one corner to the opposite one
 abbrev pub rectangle_corners : Point → Point → List Point
@@ -62,7 +56,7 @@ rectangle_corners a b = a ∷ record { x = b.x; y = a.y } ∷ b ∷ record { x =
 abbrev pub corner_lists : List ℕ → Item → List Item
 corner_lists bytes item = lists_in (list_of bytes (codes "pts") item)
 
-abbrev pub edges_as : Form → List ℕ → Item → List Edge
+abbrev pub edges_as : EdgeForm → List ℕ → Item → List Edge
 edges_as Line bytes item = straight (point_in bytes (codes "start") item) (point_in bytes (codes "end") item) ∷ []
 edges_as Rectangle bytes item = sides_of (rectangle_corners (point_in bytes (codes "start") item) (point_in bytes (codes "end") item))
 edges_as Arc bytes item = record { from = point_in bytes (codes "start") item; to = point_in bytes (codes "end") item; bow = true } ∷ []
@@ -79,7 +73,7 @@ unfoldable pub is_wide : Point → Point → Point → Bool
 is_wide a m b = int_lt (pos 0) ((a.x -ℤ m.x) *ℤ (b.x -ℤ m.x) +ℤ (a.y -ℤ m.y) *ℤ (b.y -ℤ m.y))
 
 -- the lists of points that a drawing needs
-abbrev pub needed_points : Form → List (List ℕ)
+abbrev pub needed_points : EdgeForm → List (List ℕ)
 needed_points Line = codes "start" ∷ codes "end" ∷ []
 needed_points Rectangle = codes "start" ∷ codes "end" ∷ []
 needed_points Arc = codes "start" ∷ codes "mid" ∷ codes "end" ∷ []
@@ -89,18 +83,14 @@ needed_points Other = []
 abbrev pub lacks_point : List ℕ → Item → List ℕ → Bool
 lacks_point bytes item name = not (has_list bytes name item) || is_short 2 (list_of bytes name item)
 
-unfoldable pub lacks_points : List ℕ → Item → Bool
-lacks_points bytes item =
-    list_any (lacks_point bytes item) (needed_points (form_of bytes item)) || list_any (λ list. is_short 2 (Some list)) (polygon_lists (form_of bytes item))
-  where
-    polygon_lists : Form → List Item
-    polygon_lists Polygon = corner_lists bytes item
-    polygon_lists Line = []
-    polygon_lists Rectangle = []
-    polygon_lists Arc = []
-    polygon_lists Other = []
+abbrev pub lacks_as : EdgeForm → List ℕ → Item → Bool
+lacks_as Polygon bytes item = list_any (λ list. is_short 2 (Some list)) (corner_lists bytes item)
+lacks_as form bytes item = list_any (lacks_point bytes item) (needed_points form)
 
-abbrev pub fault_as : Form → List ℕ → Item → Option NumFault
+unfoldable pub lacks_points : List ℕ → Item → Bool
+lacks_points bytes item = lacks_as (form_of bytes item) bytes item
+
+abbrev pub fault_as : EdgeForm → List ℕ → Item → Option NumFault
 fault_as Polygon bytes item = first_of (map (λ list. point_fault bytes (Some list)) (corner_lists bytes item))
 fault_as form bytes item = first_of (map (λ name. point_fault bytes (list_of bytes name item)) (needed_points form))
 
@@ -113,7 +103,7 @@ is_unread bytes item = lacks_points bytes item || is_some (edge_fault bytes item
 
 -- an edge that is curved otherwise than in an arc of at most a half circle, or a polygon with other points than `xy`;
 -- the width of an arc is tried where its points are read
-abbrev pub is_curved_as : Form → List ℕ → Item → Bool
+abbrev pub is_curved_as : EdgeForm → List ℕ → Item → Bool
 is_curved_as Line bytes item = false
 is_curved_as Rectangle bytes item = false
 is_curved_as Arc bytes item =

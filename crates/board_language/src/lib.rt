@@ -40,6 +40,17 @@ pub enum Join {
     PlatedThermal,
 }
 
+/// What kind of edge a drawing is.
+#[derive(Clone, Copy, PartialEq, Eq, Debug)]
+pub enum EdgeForm {
+    Line,
+    Rectangle,
+    Arc,
+    Polygon,
+    /// A circle, a curve, a text and whatever else.
+    Other,
+}
+
 /// A length is read here as `grid_num` reads it: the same lengths, and the same faults.
 pub fn length_law()
     ensures length { (text : List ℕ) (nm : ℤ) → IsLength text nm → (length_fault text ≡ None) × (nm ≡ length_of text) }
