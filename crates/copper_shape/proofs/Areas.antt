@@ -10,8 +10,7 @@ use Rattle.plane.specs.Narrow.{IsNearZero}
 use Rattle.octagon.specs.Room.{IsAround}
 use Rattle.covering.specs.Corners.{corners_of}
 use Rattle.touching.specs.Core.{Core, area, line, IsWhole, InCopper}
-use Rattle.cores.specs.Room.{IsInRoom, spot}
-use Rattle.copper_shape.specs.Shapes.{IsLineWithin, IsCoreWithin}
+use Rattle.cores.specs.Room.{IsInRoom, IsAreaInRoom, IsLineInRoom, IsCoreInRoom, spot}
 use Rattle.hulls.specs.Hulls.{hull_of, hulls_of, in_units}
 use Rattle.hulls.specs.Laws.{InSome}
 use Rattle.hulls.proofs.Copper.{copper_law}
@@ -154,17 +153,20 @@ if_ok P Q (Ok x) f h = f x h
 if_ok P Q (Err e) f h = tt
 
 -- ---- the two kinds of cores
-pub line_ends : (m : ℕ) (p q : Point) (c : Core) → line (spot p) (spot q) ≡ c → IsCoreWithin m c → IsInRoom m p × IsInRoom m q
-unfolding IsCoreWithin
+pub line_ends : (m : ℕ) (p q : Point) (c : Core) → line (spot p) (spot q) ≡ c → IsCoreInRoom m c → IsInRoom m p × IsInRoom m q
+unfolding IsCoreInRoom
 line_ends m p q c e h =
-    let P : Core → Type 0 = λ z. IsCoreWithin m z in
-    let w : IsLineWithin m (spot p) (spot q) = subst P (sym e) h in
-    (record { x = w.start_x; y = w.start_y }, record { x = w.finish_x; y = w.finish_y })
+    let P : Core → Type 0 = λ z. IsCoreInRoom m z in
+    let w : IsLineInRoom m (spot p) (spot q) = subst P (sym e) h in
+    (record { x = w.sx; y = w.sy }, record { x = w.tx; y = w.ty })
 
 pub area_tight : (b : Bounds) (c : Core) → area b ≡ c → IsWhole c → IsTight b
 unfolding IsWhole
 area_tight b c e h = subst (λ (z : Core). IsWhole z) (sym e) h
 
-pub area_around : (m : ℕ) (b : Bounds) (c : Core) → area b ≡ c → IsCoreWithin m c → IsAround m b
-unfolding IsCoreWithin
-area_around m b c e h = subst (λ (z : Core). IsCoreWithin m z) (sym e) h
+pub around_of : (m : ℕ) (b : Bounds) → IsAreaInRoom m b → IsAround m b
+around_of m b h = record { x_low = h.left; x_high = h.right; y_low = h.top; y_high = h.bottom }
+
+pub area_around : (m : ℕ) (b : Bounds) (c : Core) → area b ≡ c → IsCoreInRoom m c → IsAround m b
+unfolding IsCoreInRoom
+area_around m b c e h = around_of m b (subst (λ (z : Core). IsCoreInRoom m z) (sym e) h)

@@ -3,8 +3,8 @@ ghost use Rattle.std.specs.Prelude.{◌≡◌, ◌≤◌, pos, ◌+ℤ◌, ◌-�
 ghost use Rattle.plane.specs.Plane.{box_of, times};
 ghost use Rattle.octagon.specs.Room.{IsAround};
 ghost use Rattle.touching.specs.Core.{area, line};
-ghost use Rattle.cores.specs.Room.{IsInRoom, spot};
-ghost use Rattle.copper_shape.specs.Shapes.{IsBoxWithin, IsCoreWithin};
+ghost use Rattle.cores.specs.Room.{IsInRoom, IsCoreInRoom, spot};
+ghost use Rattle.copper_shape.specs.Shapes.{IsBoxWithin};
 
 use crate::Shape;
 use cores::Core;
@@ -63,7 +63,7 @@ impl Shape {
 
 // The shape of both. That the core is whole is what each core tells when it is read.
 fn with_radius(core: Core, radius: u32) -> Shape
-    requires within { IsCoreWithin 2000000000 core }
+    requires within { IsCoreInRoom 2000000000 core }
     requires radius { radius ≤ 2000000000 }
     ensures { result ≡ record { core = core; radius = radius } }
 {
