@@ -81,11 +81,9 @@ impl Shape {
     {
         hulls_of(alloc, &self.core, self.radius)
     }
-}
 
-impl Shape {
-    /// Whether some points of the two cores are at most as far apart as both radii together: the copper of both then
-    /// has a common point, if only one. It is exact.
+    /// Whether some points of the two cores are at most as far apart as both radii together; just as far apart touches,
+    /// too. It is exact, by the copper and not by the hulls.
     pub fn touches(&self, other: &Shape) -> bool
         requires room { IsCoreInRoom 1200000000 self.now.core }
         requires other_room { IsCoreInRoom 1200000000 other.now.core }

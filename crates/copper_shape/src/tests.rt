@@ -2,7 +2,7 @@
 ghost use Rattle.std.specs.Prelude.{◌≤◌, IfSome};
 ghost use Rattle.cores.specs.Room.{IsInRoom};
 
-use crate::{Edge, Shape, edge_hulls};
+use crate::{Edge, Shape, dist_sq, edge_hulls};
 use cores::Kind;
 use grid_num::Point;
 use octagon::Oct;
@@ -142,6 +142,46 @@ fn an_arc_of_the_board_edge_has_the_disc_on_its_chord(rt: HostRuntime) -> Result
             0, 1_000_000, 0, 1_000_000, 1_000_000, 1_000_000, -1_000_000, 1_000_000
         ]
     );
+    Ok(())
+}
+
+#[test]
+fn touching_is_told_to_the_nanometre(rt: HostRuntime) -> Result<(), Fail> {
+    // a track from (0 0) to (2 1) mm, 0.25 mm wide, and a via of 0.75 mm at (2.3 1.4): from the track's end the via is
+    // 0.3 and 0.4 mm away, so 0.5 mm, the sum of both radii; 1 nm further to the right they don't touch
+    let track = Shape::capsule(
+        Point { x: 0, y: 0 },
+        Point {
+            x: 4_000_000,
+            y: 2_000_000,
+        },
+        250_000,
+    );
+    for (x, touching) in [(4_600_000, true), (4_600_002, false)] {
+        let via = Shape::disc(Point { x, y: 2_800_000 }, 750_000);
+        assert_eq!(rt; track.touches(&via), touching, "{x}");
+        assert_eq!(rt; via.touches(&track), touching, "{x}");
+    }
+    // the inside of a pad counts; two round pads of 1 mm, whose centres are 0.707107 mm apart in x and in y, so a bit over
+    // 1 mm, don't touch, though their hulls share a point
+    let pad = Shape::box_round(Point { x: 0, y: 0 }, 2_000_000, 2_000_000, 0);
+    let speck = Shape::disc(Point { x: 1, y: 1 }, 0);
+    assert!(rt; pad.touches(&speck));
+    let first = Shape::disc(Point { x: 0, y: 0 }, 1_000_000);
+    let second = Shape::disc(
+        Point {
+            x: 1_414_214,
+            y: 1_414_214,
+        },
+        1_000_000,
+    );
+    assert!(rt; !first.touches(&second));
+    let near = first.hulls(rt.alloc())?;
+    let far = second.hulls(rt.alloc())?;
+    let near = near.first().ok_or("a hull")?;
+    let far = far.first().ok_or("a hull")?;
+    assert!(rt; near.meets(far));
+    assert!(rt; dist_sq(Point { x: 0, y: 0 }, Point { x: 3, y: -4 }) == 25);
     Ok(())
 }
 
