@@ -1,6 +1,6 @@
 -- The hulls of copper and of board edges: octagons, in units of the grid (2 nm), that hold all of it. Copper is given in
 -- halves of a nanometre, 4 to the unit; a board edge in nanometres.
-use Rattle.std.specs.Prelude.{ℕ, ◌≤◌, zero, suc, ◌+◌, ◌-◌, ◌*◌, min, max, ◌==◌, ◌&&◌, not, Bool, true, false, if◌then◌else◌, ℤ, pos, ◌+ℤ◌, ◌-ℤ◌, ◌*ℤ◌, ◌≤ℤ◌, List, [], ◌∷◌}
+use Rattle.std.specs.Prelude.{ℕ, ◌≤◌, zero, suc, ◌+◌, ◌-◌, ◌*◌, min, max, ◌==◌, ◌&&◌, not, Bool, true, false, if◌then◌else◌, pos, ◌+ℤ◌, ◌-ℤ◌, ◌*ℤ◌, List, [], ◌∷◌}
 use Rattle.std.specs.Int.{div_ceil}
 use Rattle.std.specs.Int.RustNames.{unsigned_abs}
 use Rattle.std.proofs.Common.{lit≤}

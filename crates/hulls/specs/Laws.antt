@@ -1,13 +1,12 @@
 -- The laws of hulls that the crates above rest on.
-use Rattle.std.specs.Prelude.{◌≡◌, ℕ, ◌+◌, ◌*◌, ◌≤◌, ◌<◌, ◌↔◌, ◌⊎◌, false, true, ℤ, pos, ◌+ℤ◌, ◌-ℤ◌, ◌*ℤ◌, ◌≤ℤ◌, List, [], ◌∷◌, length, Any}
+use Rattle.std.specs.Prelude.{◌≡◌, ℕ, ◌*◌, ◌≤◌, ◌<◌, ◌↔◌, ◌⊎◌, false, true, ℤ, pos, ◌+ℤ◌, ◌-ℤ◌, ◌*ℤ◌, ◌≤ℤ◌, List, length, Any}
 use Rattle.std.specs.List.{All}
-use Rattle.std.specs.Int.RustNames.{unsigned_abs}
 use Rattle.std.proofs.Common.{lit≤}
 use Rattle.plane.specs.Plane.{PlanePoint, Bounds, Within, In, IsTight, box_of, grid_point, positive_product}
 use Rattle.grid_num.specs.declared.Point.{Point}
 use Rattle.touching.specs.Core.{Core, Spot, area, line, OnLine, InCore, InCopper}
-use Rattle.hulls.specs.Cells.{floor_of, ceil_of, cell_of, around}
-use Rattle.hulls.specs.Hulls.{hulls_of, edge_hulls_of, chord_of, corner, in_units}
+use Rattle.hulls.specs.Cells.{floor_of, ceil_of, around}
+use Rattle.hulls.specs.Hulls.{hulls_of, edge_hulls_of, chord_of, in_units}
 
 -- x / n rounded down is the greatest whole number of which n times is at most x
 abbrev pub FloorLaw : Type 0
