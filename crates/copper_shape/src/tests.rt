@@ -145,6 +145,17 @@ fn an_arc_of_the_board_edge_has_the_disc_on_its_chord(rt: HostRuntime) -> Result
     Ok(())
 }
 
+// Whether the two touch, if they lie where that may be asked.
+fn touch(first: &Shape, second: &Shape) -> Option<bool> {
+    if !first.core().has_room() || !second.core().has_room() {
+        return None;
+    }
+    if first.radius() > 200_000_000 || second.radius() > 200_000_000 {
+        return None;
+    }
+    Some(first.touches(second))
+}
+
 #[test]
 fn touching_is_told_to_the_nanometre(rt: HostRuntime) -> Result<(), Fail> {
     // a track from (0 0) to (2 1) mm, 0.25 mm wide, and a via of 0.75 mm at (2.3 1.4): from the track's end the via is
@@ -159,14 +170,14 @@ fn touching_is_told_to_the_nanometre(rt: HostRuntime) -> Result<(), Fail> {
     );
     for (x, touching) in [(4_600_000, true), (4_600_002, false)] {
         let via = Shape::disc(Point { x, y: 2_800_000 }, 750_000);
-        assert_eq!(rt; track.touches(&via), touching, "{x}");
-        assert_eq!(rt; via.touches(&track), touching, "{x}");
+        assert_eq!(rt; touch(&track, &via), Some(touching), "{x}");
+        assert_eq!(rt; touch(&via, &track), Some(touching), "{x}");
     }
     // the inside of a pad counts; two round pads of 1 mm, whose centres are 0.707107 mm apart in x and in y, so a bit over
     // 1 mm, don't touch, though their hulls share a point
     let pad = Shape::box_round(Point { x: 0, y: 0 }, 2_000_000, 2_000_000, 0);
     let speck = Shape::disc(Point { x: 1, y: 1 }, 0);
-    assert!(rt; pad.touches(&speck));
+    assert_eq!(rt; touch(&pad, &speck), Some(true));
     let first = Shape::disc(Point { x: 0, y: 0 }, 1_000_000);
     let second = Shape::disc(
         Point {
@@ -175,7 +186,7 @@ fn touching_is_told_to_the_nanometre(rt: HostRuntime) -> Result<(), Fail> {
         },
         1_000_000,
     );
-    assert!(rt; !first.touches(&second));
+    assert_eq!(rt; touch(&first, &second), Some(false));
     let near = first.hulls(rt.alloc())?;
     let far = second.hulls(rt.alloc())?;
     let near = near.first().ok_or("a hull")?;
