@@ -1,11 +1,11 @@
 -- The corners of an area, and its hull.
-use Rattle.std.proofs.Common.{◌≡◌, refl, sym, subst, ap, ◌∙◌, ℕ, ◌+◌, ◌*◌, ◌≤◌, ◌<◌, arith, Result, Ok, Err, IfOk, w64, to_z, of_z, FitsSigned, List, [], ◌∷◌, length}
-use Rattle.std.specs.Prelude.{ℤ, pos, neg_ℤ, ◌+ℤ◌, ◌-ℤ◌, ◌*ℤ◌, ◌≤ℤ◌, Any}
+use Rattle.std.proofs.Common.{◌≡◌, refl, sym, subst, ℕ, ◌+◌, arith, Result, Ok, Err, IfOk, w64, to_z, of_z, FitsSigned, List, [], ◌∷◌}
+use Rattle.std.specs.Prelude.{ℤ, ◌+ℤ◌, ◌-ℤ◌, ◌≤ℤ◌}
 use Rattle.std.specs.List.{All}
 use Rattle.std.proofs.lemmas.Int.{ints}
 use Rattle.std.proofs.lemmas.List.Elements.{All-cons, All-nil}
 use Rattle.grid_num.specs.declared.Point.{Point}
-use Rattle.plane.specs.Plane.{PlanePoint, Bounds, IsTight, box_of, times}
+use Rattle.plane.specs.Plane.{PlanePoint, Bounds, IsTight}
 use Rattle.plane.specs.Narrow.{IsNearZero}
 use Rattle.octagon.specs.Room.{IsAround}
 use Rattle.covering.specs.Corners.{corners_of}

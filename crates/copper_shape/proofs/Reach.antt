@@ -1,6 +1,6 @@
 -- How far hulls reach.
-use Rattle.std.proofs.Common.{◌≡◌, refl, sym, subst, ap, ◌∙◌, ℕ, zero, suc, ◌+◌, ◌-◌, ◌*◌, ◌≤◌, ◌<◌, arith, List, [], ◌∷◌, length}
-use Rattle.std.specs.Prelude.{ℤ, pos, neg_ℤ, ◌+ℤ◌, ◌*ℤ◌, ◌≤ℤ◌}
+use Rattle.std.proofs.Common.{◌≡◌, sym, ap, ◌∙◌, ℕ, zero, suc, ◌+◌, ◌-◌, ◌*◌, ◌≤◌, ◌<◌, arith, List, [], ◌∷◌, length}
+use Rattle.std.specs.Prelude.{ℤ, pos, ◌+ℤ◌, ◌*ℤ◌}
 use Rattle.std.specs.Int.{div_ceil}
 use Rattle.std.specs.List.{All}
 use Rattle.std.proofs.lemmas.List.Elements.{All-cons, All-nil}
@@ -13,9 +13,8 @@ use Rattle.octagon.specs.Room.{IsAround}
 use Rattle.covering.specs.Corners.{corners_of}
 use Rattle.touching.specs.Core.{Core, Spot, area, line, IsWhole}
 use Rattle.cores.specs.Room.{IsInRoom, IsLineInRoom, IsCoreInRoom}
-use Rattle.hulls.specs.Cells.{cells_of, around}
+use Rattle.hulls.specs.Cells.{cells_of}
 use Rattle.hulls.specs.Hulls.{hull_of, cut_at, piece_hull, piece_hulls, pieces_of, hulls_of}
-use Rattle.hulls.proofs.Copper.{some_piece}
 use Rattle.copper_shape.specs.Laws.{ReachLaw}
 use Rattle.copper_shape.proofs.CellLists.{cells_near, cells_some, around_near}
 use Rattle.copper_shape.proofs.Cuts.{product_near}

@@ -1,14 +1,13 @@
 -- How far the cores of the makers reach.
-use Rattle.std.proofs.Common.{◌≡◌, ℕ, ◌≤◌, arith, w64, to_z, of_z}
-use Rattle.std.specs.Prelude.{ℤ, pos, neg_ℤ, ◌+ℤ◌, ◌-ℤ◌, ◌*ℤ◌, ◌≤ℤ◌}
+use Rattle.std.proofs.Common.{◌≡◌, ℕ, ◌≤◌, arith}
+use Rattle.std.specs.Prelude.{ℤ, pos, neg_ℤ, ◌≤ℤ◌}
 use Rattle.std.proofs.lemmas.Int.{ints}
 use Rattle.grid_num.specs.declared.Point.{Point}
-use Rattle.plane.specs.Plane.{Bounds, IsTight, box_of, times}
-use Rattle.plane.specs.Narrow.{IsNearZero}
+use Rattle.plane.specs.Plane.{Bounds, box_of, times}
 use Rattle.octagon.specs.Room.{IsAround}
 use Rattle.touching.specs.Core.{Core, area, line, IsWhole}
 use Rattle.cores.specs.Room.{IsInRoom, IsCoreInRoom, spot}
-use Rattle.copper_shape.specs.Shapes.{Copper, IsShape}
+use Rattle.copper_shape.specs.Shapes.{IsShape}
 
 pub box_within : (m : ℕ) (x0 x1 y0 y1 : ℤ) (c : Core) → c ≡ area (box_of x0 x1 y0 y1) → neg_ℤ (pos m) ≤ℤ x0 → x1 ≤ℤ pos m → neg_ℤ (pos m) ≤ℤ y0 → y1 ≤ℤ pos m → IsCoreInRoom m c
 unfolding IsCoreInRoom
