@@ -18,6 +18,8 @@ ghost use Rattle.copper_shape.specs.Laws.{ReachLaw};
 mod area;
 mod cells;
 mod edge;
+#[cfg(test)]
+mod hull_table;
 mod make;
 mod pieces;
 #[cfg(test)]
