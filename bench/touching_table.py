@@ -2,7 +2,7 @@
 """The table of crates/cores/src/tests.rt: pairs of cores with the least whole reach at which they touch.
 
 The expected numbers come from here alone, in exact fractions, and by another way than the crate's: the least distance of
-two convex sets is that of the origin from the hull of all differences of their corners. Run it to print the table.
+two convex sets is that of the origin from the hull of all differences of their corners. Run it to print the table, a pair and its least reach on each line.
 """
 from fractions import Fraction
 from math import isqrt
@@ -10,7 +10,7 @@ import random
 
 # A box is x0 y0 x1 y1, and a segment the same of its ends, in halves. A round is x y a b, in units of the grid (4 halves
 # each): the octagon with the corners (+-a, +-b) and (+-b, +-a) round the place x y.
-BOX, SEGMENT, ROUND = "Box", "Segment", "Round"
+BOX, SEGMENT, ROUND = "box", "segment", "round"
 
 
 def up2(a):
@@ -235,15 +235,10 @@ def rows():
     return [(first, second, least_reach(first, second)) for first, second in pairs]
 
 
-def number(z):
-    sign = "-" if z < 0 else ""
-    return sign + f"{abs(z):,}".replace(",", "_")
-
-
 def spelled(core):
-    return f"{core[0]}, [{', '.join(number(z) for z in core[1])}]"
+    return " ".join([core[0], *(str(z) for z in core[1])])
 
 
 if __name__ == "__main__":
     for first, second, least in rows():
-        print(f"    ({spelled(first)}, {spelled(second)}, {number(least)}),")
+        print(spelled(first), spelled(second), least)

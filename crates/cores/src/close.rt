@@ -71,7 +71,10 @@ fn is_place_in_room(p: Point) -> bool
 fn is_area_in_room(b: &Area) -> bool
     ensures { IsTrue result ↔ IsAreaInRoom 1200000000 b.now }
 {
-    b.x0 >= -1_200_000_000 && b.x1 <= 1_200_000_000 && b.y0 >= -1_200_000_000 && b.y1 <= 1_200_000_000
+    b.x0 >= -1_200_000_000
+        && b.x1 <= 1_200_000_000
+        && b.y0 >= -1_200_000_000
+        && b.y1 <= 1_200_000_000
 }
 
 // Whether the line does.
