@@ -19,6 +19,8 @@ mod number;
 mod sides;
 mod steps;
 #[cfg(test)]
+mod table;
+#[cfg(test)]
 mod tests;
 
 use crate::close::{are_close, is_in_room};
