@@ -3,4 +3,7 @@ pub mod Below
 pub mod Order
 pub mod Pairs
 pub mod Marks
+pub mod Closed
 pub mod Law
+pub mod Cutting
+pub mod Amid

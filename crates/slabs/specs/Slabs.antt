@@ -4,10 +4,11 @@
 --   row  ____/________\______|____
 --           /          \     |          slab, with three cuts
 --   row  __/____________\____|____
-use Rattle.std.specs.Prelude.{◌≡◌, ℕ, zero, suc, ◌%◌, ◌+◌, ◌<◌, ◌⊎◌, ℤ, pos, neg_ℤ, ◌+ℤ◌, ◌-ℤ◌, ◌*ℤ◌, ◌≤ℤ◌, ◌<ℤ◌, ◌↔◌, List, [], ◌∷◌, length, sum_by, Any, slice_index_or}
+use Rattle.std.specs.Prelude.{◌≡◌, ℕ, zero, suc, ◌%◌, ◌+◌, ◌<◌, ◌⊎◌, ℤ, pos, neg_ℤ, ◌+ℤ◌, ◌-ℤ◌, ◌*ℤ◌, ◌≤ℤ◌, ◌<ℤ◌, ◌↔◌, List, [], ◌∷◌, ◌++◌, length, sum_by, Any, slice_index_or, map}
 use Rattle.std.specs.List.{All}
 use Rattle.plane.specs.Plane.{PlanePoint, grid_point}
-use Rattle.covering.specs.Covering.{Edge, IsOn, Between, crossing, crossings, Covers}
+use Rattle.grid_num.specs.declared.Point.{Point}
+use Rattle.covering.specs.Covering.{Edge, IsOn, Between, crossing, Covers, edges_of}
 use Rattle.covering.specs.Edges.{AreOctilinear}
 use Rattle.covering.specs.Ends.{crossing_below}
 
@@ -54,13 +55,18 @@ pub record AreCuts (rows : List ℤ) (es cs : List Edge) : Type 0 where
 abbrev pub IsOffRows : List ℤ → PlanePoint → Type 0
 IsOffRows rows p = (z : ℤ) → IsOneOf rows z → p.y ≡ pos p.scale *ℤ z → ⊥
 
+-- both ends have a lesser x
+pub record IsLeftOf (far : ℤ) (e : Edge) : Type 0 where
+  pub start : e.start.x <ℤ far
+  pub finish : e.finish.x <ℤ far
+
 -- edges that close up and meet in rows alone
 pub record AreClosed (rows : List ℤ) (es : List Edge) : Type 0 where
   pub octilinear : AreOctilinear es
   -- edges with a common point between the rows are the same
   pub apart : (e f : Edge) (p : PlanePoint) → IsOneOf es e → IsOneOf es f → IsOn e p → IsOn f p → IsOffRows rows p → e ≡ f
-  -- each row is crossed an even number of times to the left of a far point
-  pub even : (far : ℤ) × ((y : ℤ) → sum_by (crossing (grid_point far y)) es % 2 ≡ 0) × All (λ e. (e.start.x <ℤ far) × (e.finish.x <ℤ far)) es
+  -- a row is crossed an even number of times to the left of a point that is right of all edges
+  pub even : (far y : ℤ) → All (IsLeftOf far) es → sum_by (crossing (grid_point far y)) es % 2 ≡ 0
   -- off the edges it doesn't matter for the parity which end of an edge counts
   pub ends : (p : PlanePoint) → (Any (λ e. IsOn e p) es → ⊥) → (sum_by (crossing p) es + sum_by (crossing_below p) es) % 2 ≡ 0
 
@@ -68,6 +74,10 @@ pub record AreClosed (rows : List ℤ) (es : List Edge) : Type 0 where
 unfoldable pub IsBefore : Edge → Edge → Type 0
 IsBefore c d =
     (c.start.y <ℤ d.start.y) ⊎ ((c.start.y ≡ d.start.y) × ((c.start.x +ℤ c.finish.x) ≤ℤ (d.start.x +ℤ d.finish.x)))
+
+-- the rows of all edges' starts; a closed chain has no corner in another row
+abbrev pub starts : List Edge → List ℤ
+starts es = map (λ e. e.start.y) es
 
 -- each comes before the next one
 abbrev pub AreInOrder : List Edge → Type 0
@@ -108,3 +118,20 @@ abbrev pub PairsLaw : Type 0
 PairsLaw =
     (rows : List ℤ) (es cs : List Edge) (j : ℕ) (l r : Edge) → AreClosed rows es → AreCuts rows es cs → AreInOrder cs
     → IsPair cs j l r → IsFramed l r
+
+-- closed edges meet in more rows alone, too
+abbrev pub RowsLaw : Type 0
+RowsLaw = (rows more : List ℤ) (es : List Edge) → ((z : ℤ) → IsOneOf rows z → IsOneOf more z) → AreClosed rows es → AreClosed more es
+
+-- closed edges of two lists that don't touch are closed together
+abbrev pub TogetherLaw : Type 0
+TogetherLaw =
+    (rows : List ℤ) (es fs : List Edge) → AreClosed rows es → AreClosed rows fs
+    → ((e f : Edge) (p : PlanePoint) → IsOneOf es e → IsOneOf fs f → IsOn e p → IsOn f p → ⊥) → AreClosed rows (es ++ fs)
+
+-- a closed chain is closed, where its edges meet in rows alone
+abbrev pub ChainLaw : Type 0
+ChainLaw =
+    (rows : List ℤ) (cs : List Point) → AreOctilinear (edges_of cs)
+    → ((e f : Edge) (p : PlanePoint) → IsOneOf (edges_of cs) e → IsOneOf (edges_of cs) f → IsOn e p → IsOn f p → IsOffRows rows p → e ≡ f)
+    → AreClosed rows (edges_of cs)
