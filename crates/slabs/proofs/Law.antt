@@ -10,12 +10,12 @@ use Rattle.covering.specs.Ends.{crossing_below}
 use Rattle.covering.proofs.Counts.{Counts}
 use Rattle.covering.proofs.On.{at}
 use Rattle.covering.proofs.Lists.{any_none, any_head, any_tail, any_cases, covers_on, covers_odd, covers_cases}
-use Rattle.slabs.specs.Slabs.{IsOneOf, IsAt, IsCut, AreCuts, AreClosed, AreInOrder, IsFramed, IsAmid, IsPair, IsInPair, IsOnLevel, IsLeftOf, SlabsLaw, PairsLaw}
+use Rattle.slabs.specs.Slabs.{IsOneOf, IsAt, IsCut, AreCuts, AreClosed, AreInOrder, IsFramed, IsAmid, IsPair, IsInPair, IsOnLevel, SlabsLaw, PairsLaw}
 use Rattle.slabs.proofs.At.{somewhere, crosses, cut_on, on_at, along_down}
 use Rattle.slabs.proofs.Below.{CountsBelow, crosses_below}
 use Rattle.slabs.proofs.Order.{IsCutOf, AreLined, lined, one_of, all_head, all_tail}
 use Rattle.slabs.proofs.Pairs.{IsWay, AreAligned, IsTop, aligned, odd_pair, pair_odd, pair_all, pair_framed}
-use Rattle.slabs.proofs.Closed.{far_of}
+use Rattle.slabs.proofs.Closed.{far_of, far_left}
 use Rattle.slabs.proofs.Marks.{way, order_at, crossing_marks, below_marks, top_marks}
 
 -- ---- whether a point is on an edge can be told
@@ -79,8 +79,8 @@ known rows es cs closed cuts order =
       line = line;
       pairs = aligned (λ (y : ℤ). crossing (grid_point far y)) (λ y. IsOneOf rows y) cs ways line
           (λ k d h. (cuts.each k d h).2.top)
-          (λ y row k d h. (let a = cuts.each k d h in let b = one_of (IsLeftOf far) es a.0 bound.1 a.1 in top_marks rows a.0 (get_or cs k d) far y a.2 b.start b.finish row))
-          (λ y row. (let e = closed.even far y bound.1 in let c = cuts.count (grid_point far y) in omega (arith, e, c)));
+          (λ y row k d h. (let a = cuts.each k d h in let b = one_of (λ e. (e.start.x <ℤ far) × (e.finish.x <ℤ far)) es a.0 bound.1 a.1 in top_marks rows a.0 (get_or cs k d) far y a.2 b.0 b.1 row))
+          (λ y row. (let e = closed.even (grid_point far y) (far_left es far y bound.1) in let c = cuts.count (grid_point far y) in omega (arith, e, c)));
     }
 
 pub pairs_law : PairsLaw

@@ -7,3 +7,5 @@ pub mod Closed
 pub mod Law
 pub mod Cutting
 pub mod Amid
+pub mod Outside
+pub mod Framed

@@ -6,7 +6,7 @@
 --   row  __/____________\____|____
 use Rattle.std.specs.Prelude.{◌≡◌, ℕ, zero, suc, ◌%◌, ◌+◌, ◌<◌, ◌⊎◌, ℤ, pos, neg_ℤ, ◌+ℤ◌, ◌-ℤ◌, ◌*ℤ◌, ◌≤ℤ◌, ◌<ℤ◌, ◌↔◌, List, [], ◌∷◌, ◌++◌, length, sum_by, Any, slice_index_or, map}
 use Rattle.std.specs.List.{All}
-use Rattle.plane.specs.Plane.{PlanePoint, grid_point}
+use Rattle.plane.specs.Plane.{PlanePoint}
 use Rattle.grid_num.specs.declared.Point.{Point}
 use Rattle.covering.specs.Covering.{Edge, IsOn, Between, crossing, Covers, edges_of}
 use Rattle.covering.specs.Edges.{AreOctilinear}
@@ -55,10 +55,10 @@ pub record AreCuts (rows : List ℤ) (es cs : List Edge) : Type 0 where
 abbrev pub IsOffRows : List ℤ → PlanePoint → Type 0
 IsOffRows rows p = (z : ℤ) → IsOneOf rows z → p.y ≡ pos p.scale *ℤ z → ⊥
 
--- both ends have a lesser x
-pub record IsLeftOf (far : ℤ) (e : Edge) : Type 0 where
-  pub start : e.start.x <ℤ far
-  pub finish : e.finish.x <ℤ far
+-- both ends have a lesser x than p
+pub record IsLeftOf (p : PlanePoint) (e : Edge) : Type 0 where
+  pub start : (pos p.scale *ℤ e.start.x) <ℤ p.x
+  pub finish : (pos p.scale *ℤ e.finish.x) <ℤ p.x
 
 -- edges that close up and meet in rows alone
 pub record AreClosed (rows : List ℤ) (es : List Edge) : Type 0 where
@@ -66,7 +66,7 @@ pub record AreClosed (rows : List ℤ) (es : List Edge) : Type 0 where
   -- edges with a common point between the rows are the same
   pub apart : (e f : Edge) (p : PlanePoint) → IsOneOf es e → IsOneOf es f → IsOn e p → IsOn f p → IsOffRows rows p → e ≡ f
   -- a row is crossed an even number of times to the left of a point that is right of all edges
-  pub even : (far y : ℤ) → All (IsLeftOf far) es → sum_by (crossing (grid_point far y)) es % 2 ≡ 0
+  pub even : (p : PlanePoint) → All (IsLeftOf p) es → sum_by (crossing p) es % 2 ≡ 0
   -- off the edges it doesn't matter for the parity which end of an edge counts
   pub ends : (p : PlanePoint) → (Any (λ e. IsOn e p) es → ⊥) → (sum_by (crossing p) es + sum_by (crossing_below p) es) % 2 ≡ 0
 
