@@ -3,3 +3,4 @@ pub mod Side
 pub mod Faults
 pub mod Search
 pub mod Places
+pub mod Cuts

@@ -10,11 +10,15 @@ ghost use Rattle.outline_slab.specs.Rules.{IsSimple, IsWithin};
 
 mod covers;
 mod crossing;
+mod cuts;
 mod error;
+mod inside;
 pub mod laws;
 mod make;
 mod rows;
 mod side;
+mod slab_octs;
+mod slab_rows;
 #[cfg(test)]
 mod tests;
 

@@ -6,9 +6,9 @@ use Rattle.plane.specs.Plane.{PlanePoint, Bounds, Within, times, In}
 use Rattle.plane.proofs.Times.{mul_add, mul_sub, mul_le}
 use Rattle.covering.specs.Covering.{Edge}
 use Rattle.covering.proofs.On.{at}
-use Rattle.slabs.specs.Slabs.{IsAt, IsCut, IsFramed, IsAmid}
+use Rattle.slabs.specs.Slabs.{IsAt, IsFramed, IsAmid}
 use Rattle.slabs.specs.Cutting.{IsFourHull, AmidLaw}
-use Rattle.slabs.proofs.At.{IsSteep, steep, somewhere}
+use Rattle.slabs.proofs.At.{somewhere}
 
 -- ---- bounds with one changed
 with_x0 : (b : Bounds) (a x y : ℤ) → Within b x y → a ≤ℤ x → Within (record b { x0 = a }) x y
@@ -218,10 +218,10 @@ amid_in l r b p f h a =
     }
 
 pub amid_law : AmidLaw
-amid_law rows e f l r b p cl cr framed h = (
+amid_law l r b p cl cr framed h = (
   λ i.
-      (let z = somewhere l p.scale p.y (steep e l cl.line) in
-      let u = somewhere r p.scale p.y (steep f r cr.line) in
+      (let z = somewhere l p.scale p.y cl.steep in
+      let u = somewhere r p.scale p.y cr.steep in
       let q = rows_of l r b p framed cl.down h i in
       record { top = q.0; bottom = q.1; left = (z.0, z.1, left_of l r b p z.0 framed h i z.1); right = (u.0, u.1, right_of l r b p u.0 framed h i u.1) }),
   λ a. amid_in l r b p framed h a,

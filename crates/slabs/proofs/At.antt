@@ -8,7 +8,7 @@ use Rattle.grid_num.specs.declared.Point.{Point}
 use Rattle.covering.specs.Covering.{Edge, IsOn, Between, crossing, down_crossing}
 use Rattle.covering.proofs.Counts.{Counts, none_up, upright, rise, fall}
 use Rattle.covering.proofs.On.{at, on_upright, upright_on, on_rise, rise_on, on_fall, fall_on}
-use Rattle.slabs.specs.Slabs.{IsAt, IsInLine}
+use Rattle.slabs.specs.Slabs.{IsAt, IsInLine, IsSteep}
 
 -- from the top row t, where the cut is at u, to the bottom row b, where it is at v, it passes row y at z
 abbrev pub Passes : ℤ → ℤ → ℤ → ℤ → ℤ → ℤ → Type 0
@@ -42,9 +42,6 @@ passes c k y z (inr (inr a)) =
     inr (inr (omega (arith, ints, m, f, g), a.1))
 
 -- a cut passes each row
-abbrev pub IsSteep : Edge → Type 0
-IsSteep c = (c.finish.x ≡ c.start.x) ⊎ ((c.finish.x -ℤ c.start.x ≡ c.finish.y -ℤ c.start.y) ⊎ (c.finish.x -ℤ c.start.x ≡ neg_ℤ (c.finish.y -ℤ c.start.y)))
-
 pub somewhere : (c : Edge) (k : ℕ) (y : ℤ) → IsSteep c → (z : ℤ) × IsAt c k y z
 unfolding IsAt
 somewhere c k y (inl a) = (pos k *ℤ c.start.x, inl (a, refl))

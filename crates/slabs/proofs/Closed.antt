@@ -15,8 +15,8 @@ use Rattle.covering.proofs.On.{at}
 use Rattle.covering.proofs.Laws.{crossing_turned}
 use Rattle.covering.proofs.Rows.{ends_law}
 use Rattle.covering.proofs.Lists.{any_none, any_head, any_tail, any_cases, any_left, any_right, any_parts}
-use Rattle.slabs.specs.Slabs.{IsOneOf, IsAt, IsOffRows, IsLeftOf, AreClosed, RowsLaw, TogetherLaw, ChainLaw}
-use Rattle.slabs.proofs.At.{IsSteep, Passes, passes, somewhere, crosses}
+use Rattle.slabs.specs.Slabs.{IsOneOf, IsAt, IsOffRows, IsLeftOf, AreClosed, IsSteep, RowsLaw, TogetherLaw, ChainLaw}
+use Rattle.slabs.proofs.At.{Passes, passes, somewhere, crosses}
 use Rattle.slabs.proofs.Order.{all_head, all_tail}
 
 -- ---- a place right of all edges

@@ -10,11 +10,11 @@ use Rattle.covering.specs.Ends.{crossing_below}
 use Rattle.covering.proofs.Counts.{Counts}
 use Rattle.covering.proofs.On.{at}
 use Rattle.covering.proofs.Lists.{any_none, any_head, any_tail, any_cases, covers_on, covers_odd, covers_cases}
-use Rattle.slabs.specs.Slabs.{IsOneOf, IsAt, IsCut, AreCuts, AreClosed, AreInOrder, IsFramed, IsAmid, IsPair, IsInPair, IsOnLevel, SlabsLaw, PairsLaw}
+use Rattle.slabs.specs.Slabs.{IsOneOf, IsAt, IsCut, AreCuts, AreClosed, AreInOrder, IsFramed, IsAmid, IsPair, IsWay, IsInPair, IsOnLevel, SlabsLaw, PairsLaw}
 use Rattle.slabs.proofs.At.{somewhere, crosses, cut_on, on_at, along_down}
 use Rattle.slabs.proofs.Below.{CountsBelow, crosses_below}
 use Rattle.slabs.proofs.Order.{IsCutOf, AreLined, lined, one_of, all_head, all_tail}
-use Rattle.slabs.proofs.Pairs.{IsWay, AreAligned, IsTop, aligned, odd_pair, pair_odd, pair_all, pair_framed}
+use Rattle.slabs.proofs.Pairs.{AreAligned, IsTop, aligned, odd_pair, pair_odd, pair_all, pair_framed}
 use Rattle.slabs.proofs.Closed.{far_of, far_left}
 use Rattle.slabs.proofs.Marks.{way, order_at, crossing_marks, below_marks, top_marks}
 
@@ -84,7 +84,10 @@ known rows es cs closed cuts order =
     }
 
 pub pairs_law : PairsLaw
-pairs_law rows es cs j l r closed cuts order i = pair_framed cs j l r (known rows es cs closed cuts order).pairs i
+pairs_law rows es cs j l r closed cuts order i =
+    let k = known rows es cs closed cuts order in
+    let w = pair_all IsWay cs j l r k.ways i in
+    (w.0, w.1, pair_framed cs j l r k.pairs i)
 
 -- ---- from covered to between
 any_pair : (P : Edge → Type 0) (cs : List Edge) → AreAligned cs → Any P cs → (j : ℕ) × (l : Edge) × (r : Edge) × IsPair cs j l r × (P l ⊎ P r)

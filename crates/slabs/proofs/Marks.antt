@@ -9,11 +9,11 @@ use Rattle.covering.specs.Covering.{Edge, IsOn, Between, crossing}
 use Rattle.covering.specs.Ends.{crossing_below}
 use Rattle.covering.proofs.Counts.{Counts}
 use Rattle.covering.proofs.On.{at}
-use Rattle.slabs.specs.Slabs.{IsOneOf, IsAt, IsInLine, IsCut, IsFramed}
+use Rattle.slabs.specs.Slabs.{IsOneOf, IsAt, IsInLine, IsCut, IsFramed, IsWay}
 use Rattle.slabs.proofs.At.{Passes, passes, ordered, somewhere, steep, crosses}
 use Rattle.slabs.proofs.Below.{CountsBelow, crosses_below}
 use Rattle.slabs.proofs.Order.{IsCutOf, one_of}
-use Rattle.slabs.proofs.Pairs.{IsWay, IsMarking, IsTop}
+use Rattle.slabs.proofs.Pairs.{IsMarking, IsTop}
 
 pub way : (rows : List ℤ) (e c : Edge) → IsCut rows e c → IsWay c
 way rows e c a = record { down = a.down; steep = steep e c a.line }

@@ -6,7 +6,7 @@ use Rattle.std.proofs.lemmas.Int.{ints, by_lt_z}
 use Rattle.plane.specs.Plane.{PlanePoint}
 use Rattle.covering.specs.Covering.{Edge, IsOn, Between}
 use Rattle.slabs.specs.Slabs.{IsOneOf, IsAt, IsInLine, IsCut, AreClosed, IsOffRows, IsBefore, AreInOrder, IsFramed}
-use Rattle.slabs.proofs.At.{IsSteep, steep, swapped, cut_on}
+use Rattle.slabs.proofs.At.{steep, swapped, cut_on}
 
 pub one_of : {X : Type 0} (P : X → Type 0) (xs : List X) (x : X) → All P xs → IsOneOf xs x → P x
 one_of P xs x all a = subst P a.4 (subst P a.3 (all a.0 a.1 a.2))

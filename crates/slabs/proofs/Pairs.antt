@@ -5,14 +5,8 @@ use Rattle.std.specs.List.{All}
 use Rattle.std.proofs.lemmas.Int.{ints, by_lt_z}
 use Rattle.std.proofs.lemmas.List.Sums.{sum_by-cons}
 use Rattle.covering.specs.Covering.{Edge}
-use Rattle.slabs.specs.Slabs.{IsFramed, IsPair}
-use Rattle.slabs.proofs.At.{IsSteep}
+use Rattle.slabs.specs.Slabs.{IsFramed, IsPair, IsWay}
 use Rattle.slabs.proofs.Order.{IsBeside, AreLined, all_head, all_tail}
-
--- upright or slanted, and gone down
-pub record IsWay (c : Edge) : Type 0 where
-  pub down : c.start.y <ℤ c.finish.y
-  pub steep : IsSteep c
 
 -- two and two lie in one slab
 unfoldable pub AreAligned : List Edge → Type 0

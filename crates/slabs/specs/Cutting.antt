@@ -6,7 +6,7 @@ use Rattle.grid_num.specs.declared.Point.{Point}
 use Rattle.covering.specs.Covering.{Edge, IsOn, Between, crossing}
 use Rattle.covering.specs.Edges.{turned, IsOctilinear}
 use Rattle.covering.specs.Ends.{crossing_below}
-use Rattle.slabs.specs.Slabs.{IsOneOf, IsAt, IsInLine, IsCut, AreCuts, IsFramed, IsAmid}
+use Rattle.slabs.specs.Slabs.{IsOneOf, IsAt, IsInLine, IsCut, AreCuts, IsWay, IsFramed, IsAmid}
 
 -- c is the part of e from one row down to another
 pub record IsPart (rows : List ℤ) (e c : Edge) : Type 0 where
@@ -77,4 +77,4 @@ pub record IsFourHull (l r : Edge) (b : Bounds) : Type 0 where
 
 -- the octagon of two cuts of a slab has just the points from the one to the other
 abbrev pub AmidLaw : Type 0
-AmidLaw = (rows : List ℤ) (e f l r : Edge) (b : Bounds) (p : PlanePoint) → IsCut rows e l → IsCut rows f r → IsFramed l r → IsFourHull l r b → In b p ↔ IsAmid l r p
+AmidLaw = (l r : Edge) (b : Bounds) (p : PlanePoint) → IsWay l → IsWay r → IsFramed l r → IsFourHull l r b → In b p ↔ IsAmid l r p

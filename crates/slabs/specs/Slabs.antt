@@ -107,17 +107,27 @@ SlabsLaw =
     (rows : List ℤ) (es cs : List Edge) (p : PlanePoint) → AreClosed rows es → AreCuts rows es cs → AreInOrder cs
     → Covers es p ↔ (IsInPair cs p ⊎ IsOnLevel es p)
 
--- .. and in each pair the first cut is nowhere right of the second one, in the same slab
+-- upright or slanted by 45 degrees
+abbrev pub IsSteep : Edge → Type 0
+IsSteep c = (c.finish.x ≡ c.start.x) ⊎ ((c.finish.x -ℤ c.start.x ≡ c.finish.y -ℤ c.start.y) ⊎ (c.finish.x -ℤ c.start.x ≡ neg_ℤ (c.finish.y -ℤ c.start.y)))
+
+-- .. and gone down
+pub record IsWay (c : Edge) : Type 0 where
+  pub down : c.start.y <ℤ c.finish.y
+  pub steep : IsSteep c
+
+-- l is nowhere right of r, in the same slab
 pub record IsFramed (l r : Edge) : Type 0 where
   pub top : l.start.y ≡ r.start.y
   pub bottom : l.finish.y ≡ r.finish.y
   pub upper : l.start.x ≤ℤ r.start.x
   pub lower : l.finish.x ≤ℤ r.finish.x
 
+-- the cuts of a pair are so
 abbrev pub PairsLaw : Type 0
 PairsLaw =
     (rows : List ℤ) (es cs : List Edge) (j : ℕ) (l r : Edge) → AreClosed rows es → AreCuts rows es cs → AreInOrder cs
-    → IsPair cs j l r → IsFramed l r
+    → IsPair cs j l r → IsWay l × IsWay r × IsFramed l r
 
 -- closed edges meet in more rows alone, too
 abbrev pub RowsLaw : Type 0
