@@ -12,3 +12,4 @@ pub mod Sides
 pub mod Rising
 pub mod Octs
 pub mod Simple
+pub mod Frames

@@ -50,7 +50,8 @@ fn with_sides(corners: &[Point], sides: Vec<Side>) -> Result<Vec<Side>, Memory>
 
 // The corners of a rectangle, clockwise from the upper left.
 fn corners_of(frame: &Oct) -> [Point; 4]
-    ensures { result ≡ box_corners frame.now.x0 frame.now.x1 frame.now.y0 frame.now.y1 }
+    ensures corners { result ≡ box_corners frame.now.x0 frame.now.x1 frame.now.y0 frame.now.y1 }
+    ensures oct { IsOct frame.now }
 {
     [
         Point {
