@@ -13,3 +13,4 @@ pub mod Rising
 pub mod Octs
 pub mod Simple
 pub mod Frames
+pub mod Exchanged

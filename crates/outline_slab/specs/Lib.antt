@@ -4,3 +4,4 @@ pub mod Faults
 pub mod Search
 pub mod Places
 pub mod Cuts
+pub mod Exchange

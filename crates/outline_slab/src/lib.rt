@@ -19,6 +19,7 @@ mod rows;
 mod side;
 mod slab_octs;
 mod slab_rows;
+mod sweep;
 #[cfg(test)]
 mod tests;
 
