@@ -14,3 +14,4 @@ pub mod Octs
 pub mod Simple
 pub mod Frames
 pub mod Exchanged
+pub mod Wide

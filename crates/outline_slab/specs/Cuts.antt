@@ -2,6 +2,7 @@
 use Rattle.std.specs.Prelude.{◌≡◌, ℕ, ◌*◌, ◌+◌, ◌<◌, ◌≤◌, ◌≤ℤ◌, ℤ, List, length, map, slice_index_or, Any}
 use Rattle.std.specs.List.{All}
 use Rattle.plane.specs.Plane.{PlanePoint, Bounds, In}
+use Rattle.plane.specs.Narrow.{IsNearZero}
 use Rattle.octagon.specs.Bounded.{IsInReach}
 use Rattle.covering.specs.Covering.{Edge, IsOn}
 use Rattle.covering.specs.Edges.{IsOctilinear}
@@ -47,6 +48,13 @@ pub record AreTwo (l r : Edge) : Type 0 where
 -- each pair is two such cuts
 abbrev pub ArePaired : List Edge → Type 0
 ArePaired cs = (j : ℕ) (l r : Edge) → IsPair cs j l r → AreTwo l r
+
+-- x and y lie within half a metre of 0, in units of 2 nm
+pub record IsNearby (b : Bounds) : Type 0 where
+  pub x0 : IsNearZero 250000000 b.x0
+  pub x1 : IsNearZero 250000000 b.x1
+  pub y0 : IsNearZero 250000000 b.y0
+  pub y1 : IsNearZero 250000000 b.y1
 
 -- some octagon of the list has p
 abbrev pub IsInSome : List Bounds → PlanePoint → Type 0

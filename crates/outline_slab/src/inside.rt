@@ -1,11 +1,13 @@
 // Octagons of what an outline covers, and of what it leaves of a frame.
-ghost use Rattle.std.specs.Prelude.{◌≡◌, ◌⊎◌, ◌↔◌, ◌++◌, Any, IfOk};
+ghost use Rattle.std.specs.Prelude.{◌≡◌, ◌↔◌, ◌++◌, pos, ◌+ℤ◌, ◌-ℤ◌, Any, IfOk};
 ghost use Rattle.std.specs.List.{All};
-ghost use Rattle.plane.specs.Plane.{PlanePoint, In, IsOct};
+ghost use Rattle.plane.specs.Plane.{PlanePoint, In, IsOct, box_of};
+ghost use Rattle.plane.specs.Narrow.{IsNearZero};
+ghost use Rattle.octagon.specs.Bounded.{bounds_of};
 ghost use Rattle.covering.specs.Covering.{Covers, edges_of};
 ghost use Rattle.covering.specs.Corners.{box_corners};
 ghost use Rattle.slabs.specs.Outside.{IsFrame, IsOutside};
-ghost use Rattle.outline_slab.specs.Cuts.{all_edges};
+ghost use Rattle.outline_slab.specs.Cuts.{all_edges, IsNearby};
 
 use crate::Outline;
 use crate::side::{Side, edge_at};
@@ -24,6 +26,18 @@ impl Outline {
         covered_octs(alloc, &sides)
     }
 
+    /// The rectangle that is one unit wider than the frame on each side.
+    pub fn wide_frame(&self) -> Oct
+        ensures frame { IsFrame self.now result }
+        ensures oct { IsOct result }
+    {
+        let frame = self.frame();
+        match Oct::of_bounds(rim_round(&frame).bounds()) {
+            Some(wide) => wide,
+            None => frame,
+        }
+    }
+
     /// Octagons of just the points of the frame, a rectangle round the outline, that the outline doesn't cover, the
     /// outline's edges counted in.
     pub fn outer(&self, alloc: Global, frame: &Oct) -> Result<Vec<Oct>, Memory>
@@ -34,6 +48,51 @@ impl Outline {
         let sides = with_sides(self.vertices.as_slice(), Vec::new(alloc))?;
         let sides = with_sides(&corners_of(frame), sides)?;
         covered_octs(alloc, &sides)
+    }
+}
+
+// The four sides of a rectangle.
+#[derive(Clone, Copy)]
+struct Rim {
+    left: i64,
+    right: i64,
+    top: i64,
+    bottom: i64,
+}
+
+// One unit round an octagon on each side.
+fn rim_round(frame: &Oct) -> Rim
+    requires { IsNearby frame.now }
+    ensures left { result.left ≡ frame.now.x0 -ℤ pos 1 }
+    ensures right { result.right ≡ frame.now.x1 +ℤ pos 1 }
+    ensures top { result.top ≡ frame.now.y0 -ℤ pos 1 }
+    ensures bottom { result.bottom ≡ frame.now.y1 +ℤ pos 1 }
+{
+    Rim {
+        left: frame.x0() - 1,
+        right: frame.x1() + 1,
+        top: frame.y0() - 1,
+        bottom: frame.y1() + 1,
+    }
+}
+
+impl Rim {
+    // The bounds of the rectangle as an octagon.
+    fn bounds(self) -> [i64; 8]
+        requires x { IsNearZero 250000001 self.left × IsNearZero 250000001 self.right }
+        requires y { IsNearZero 250000001 self.top × IsNearZero 250000001 self.bottom }
+        ensures { bounds_of result ≡ box_of self.left self.right self.top self.bottom }
+    {
+        [
+            self.left,
+            self.right,
+            self.top,
+            self.bottom,
+            self.left + self.top,
+            self.right + self.bottom,
+            self.left - self.bottom,
+            self.right - self.top,
+        ]
     }
 }
 

@@ -7,6 +7,7 @@ ghost use Rattle.std.specs.Prelude.{◌≡◌};
 ghost use Rattle.std.specs.List.{All};
 ghost use Rattle.plane.specs.Plane.{Bounds, PlanePoint, Within, In, IsOct};
 ghost use Rattle.outline_slab.specs.Rules.{IsSimple, IsWithin};
+ghost use Rattle.outline_slab.specs.Cuts.{IsNearby};
 
 mod covers;
 mod crossing;
@@ -62,6 +63,7 @@ impl Outline {
         ensures holds { All (λ q. Within result q.x q.y) self.now }
         ensures least { (b : Bounds) (p : PlanePoint) → All (λ q. Within b q.x q.y) self.now → In result p → In b p }
         ensures oct { IsOct result }
+        ensures near { IsNearby result }
     {
         Oct::of_points(self.vertices.as_slice())
     }
