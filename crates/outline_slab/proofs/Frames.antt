@@ -49,9 +49,10 @@ starts_both : (es fs : List Edge) → starts (es ++ fs) ≡ starts es ++ starts 
 starts_both es fs = map-append (λ (e : Edge). e.start.y) es fs
 
 rim_rows : (b : Bounds) → IsOneOf (starts (rim_of b)) b.y0 × IsOneOf (starts (rim_of b)) b.y1
-rim_rows b =
-    (any_head (λ x. x ≡ b.y0) b.y0 (b.y0 ∷ b.y1 ∷ b.y1 ∷ []) refl,
-    any_tail (λ x. x ≡ b.y1) b.y0 (b.y0 ∷ b.y1 ∷ b.y1 ∷ []) (any_tail (λ x. x ≡ b.y1) b.y0 (b.y1 ∷ b.y1 ∷ []) (any_head (λ x. x ≡ b.y1) b.y1 (b.y1 ∷ []) refl)))
+rim_rows b = (
+  any_head (λ x. x ≡ b.y0) b.y0 (b.y0 ∷ b.y1 ∷ b.y1 ∷ []) refl,
+  any_tail (λ x. x ≡ b.y1) b.y0 (b.y0 ∷ b.y1 ∷ b.y1 ∷ []) (any_tail (λ x. x ≡ b.y1) b.y0 (b.y1 ∷ b.y1 ∷ []) (any_head (λ x. x ≡ b.y1) b.y1 (b.y1 ∷ []) refl)),
+)
 
 pub closed_both : (cs : List Point) (b : Bounds) → IsSimple cs → IsFrame cs b → AreClosed (starts (edges_of cs ++ edges_of (box_corners b.x0 b.x1 b.y0 b.y1))) (edges_of cs ++ edges_of (box_corners b.x0 b.x1 b.y0 b.y1))
 closed_both cs b s f =

@@ -62,9 +62,10 @@ round_near f l r t b n e =
     let el = e.left in
     let er = e.right in
     let et = e.top in
-    let eb = e.bottom in
-    ((record { low = omega (arith, ints); high = omega (arith, ints) }, record { low = omega (arith, ints); high = omega (arith, ints) }),
-    (record { low = omega (arith, ints); high = omega (arith, ints) }, record { low = omega (arith, ints); high = omega (arith, ints) }))
+    let eb = e.bottom in (
+      (record { low = omega (arith, ints); high = omega (arith, ints) }, record { low = omega (arith, ints); high = omega (arith, ints) }),
+      (record { low = omega (arith, ints); high = omega (arith, ints) }, record { low = omega (arith, ints); high = omega (arith, ints) }),
+    )
 
 pub round_range : (f c : Bounds) (l r t b : ℤ) → IsNearby f → IsRound f l r t b → c ≡ box_of l r t b → IsInRange c
 round_range f c l r t b n e is = rw is

@@ -97,6 +97,9 @@ pub fn in_order(cuts: Vec<Side>) -> Result<Vec<Side>, Memory>
     ensures order { IfOk result (λ v. AreInOrder (all_edges v.items)) }
 {
     let mut cuts = cuts;
-    cuts.sort_by_key(|cut| (cut.start.y, i128::from(cut.start.x) + i128::from(cut.finish.x)))?;
+    cuts.sort_by_key(|cut| (
+        cut.start.y,
+        i128::from(cut.start.x) + i128::from(cut.finish.x),
+    ))?;
     Ok(cuts)
 }

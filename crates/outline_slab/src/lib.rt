@@ -9,6 +9,8 @@ ghost use Rattle.plane.specs.Plane.{Bounds, PlanePoint, Within, In, IsOct};
 ghost use Rattle.outline_slab.specs.Rules.{IsSimple, IsWithin};
 ghost use Rattle.outline_slab.specs.Cuts.{IsNearby};
 
+#[cfg(test)]
+mod area_tests;
 mod covers;
 mod crossing;
 mod cuts;

@@ -41,4 +41,3 @@ returns-clause-next c =
     let p = IsPartitionPoint-from_clause (λ z. int_le z y) rows i c.partition_point-place.ensures.partitioned (partitioned rows y c.requires.rising) (λ a r q k. search (rules, arith, ints)) in
     let e : to_z w64 (of_z w64 (get_or rows i (pos 0))) ≡ get_or rows i (pos 0) = search (rules, arith, ints) in
     rw e (found_next rows y i c.requires.rising p (pos 0) c.requires.some)
-
