@@ -1,8 +1,8 @@
 -- The octagon round the four ends of two cuts of a slab has just the points between them.
-use Rattle.std.proofs.Common.{◌≡◌, refl, sym, ◌∙◌, ap, ℕ, ◌+◌, ◌≤◌, ◌⊎◌, inl, inr, arith, List}
-use Rattle.std.specs.Prelude.{ℤ, pos, neg_ℤ, ◌+ℤ◌, ◌-ℤ◌, ◌*ℤ◌, ◌≤ℤ◌, ◌<ℤ◌, ◌↔◌}
-use Rattle.std.proofs.lemmas.Int.{ints, by_lt_z}
-use Rattle.plane.specs.Plane.{PlanePoint, Bounds, Within, times, In}
+use Rattle.std.proofs.Common.{◌≡◌, ℕ, ◌⊎◌, inl, inr, arith}
+use Rattle.std.specs.Prelude.{ℤ, pos, ◌+ℤ◌, ◌-ℤ◌, ◌*ℤ◌, ◌≤ℤ◌, ◌<ℤ◌}
+use Rattle.std.proofs.lemmas.Int.{ints}
+use Rattle.plane.specs.Plane.{PlanePoint, Bounds, Within, In}
 use Rattle.plane.proofs.Times.{mul_add, mul_sub, mul_le}
 use Rattle.covering.specs.Covering.{Edge}
 use Rattle.covering.proofs.On.{at}

@@ -1,10 +1,9 @@
 -- Where a cut passes a row: order, common points and crossings in linear form.
-use Rattle.std.proofs.Common.{◌≡◌, refl, sym, ◌∙◌, ap, ℕ, zero, suc, ◌+◌, ◌≤◌, ◌⊎◌, inl, inr, arith, true, cond, lit≤}
-use Rattle.std.specs.Prelude.{ℤ, pos, neg_ℤ, ◌+ℤ◌, ◌-ℤ◌, ◌*ℤ◌, ◌≤ℤ◌, ◌<ℤ◌, ◌↔◌, int_lt, int_le, ◌&&◌}
-use Rattle.std.proofs.lemmas.Int.{ints, by_lt_z}
+use Rattle.std.proofs.Common.{◌≡◌, refl, sym, ◌∙◌, ℕ, ◌⊎◌, inl, inr, arith}
+use Rattle.std.specs.Prelude.{ℤ, pos, neg_ℤ, ◌+ℤ◌, ◌-ℤ◌, ◌*ℤ◌, ◌≤ℤ◌, ◌<ℤ◌}
+use Rattle.std.proofs.lemmas.Int.{ints}
 use Rattle.plane.specs.Plane.{PlanePoint}
 use Rattle.plane.proofs.Times.{mul_add, mul_sub, mul_le, mul_lt}
-use Rattle.grid_num.specs.declared.Point.{Point}
 use Rattle.covering.specs.Covering.{Edge, IsOn, Between, crossing, down_crossing}
 use Rattle.covering.proofs.Counts.{Counts, none_up, upright, rise, fall}
 use Rattle.covering.proofs.On.{at, on_upright, upright_on, on_rise, rise_on, on_fall, fall_on}

@@ -114,7 +114,6 @@ split_below a b c p w =
     ] in
     omega (arith, m, z1, z2, z3)
 
-
 -- the direction of an edge doesn't matter
 pub below_turned : (p : PlanePoint) (e : Edge) → crossing_below p (turned e) ≡ crossing_below p e
 unfolding turned crossing_below

@@ -1,6 +1,6 @@
 -- Closed chains cross each row an even number of times.
-use Rattle.std.proofs.Common.{◌≡◌, refl, sym, ◌∙◌, ap, subst, ℕ, zero, suc, ◌+◌, ◌%◌, ◌<◌, ◌≤◌, ◌⊎◌, inl, inr, arith, List, [], ◌∷◌, ◌++◌, length, get_or, true, false, cond}
-use Rattle.std.specs.Prelude.{ℤ, pos, neg_ℤ, ◌+ℤ◌, ◌-ℤ◌, ◌*ℤ◌, ◌≤ℤ◌, ◌<ℤ◌, sum_by, Any, int_le}
+use Rattle.std.proofs.Common.{◌≡◌, refl, sym, ℕ, zero, suc, ◌+◌, ◌%◌, ◌<◌, ◌⊎◌, inl, inr, arith, List, [], ◌∷◌, ◌++◌, length, get_or, cond}
+use Rattle.std.specs.Prelude.{ℤ, pos, ◌+ℤ◌, ◌*ℤ◌, ◌≤ℤ◌, ◌<ℤ◌, sum_by, int_le}
 use Rattle.std.specs.List.{All}
 use Rattle.std.proofs.lemmas.Int.{ints, by_lt_z}
 use Rattle.std.proofs.lemmas.List.Sums.{sum_by-cons, sum_by-append}
@@ -14,8 +14,8 @@ use Rattle.covering.proofs.Counts.{Counts, most_true, most_false, none_up}
 use Rattle.covering.proofs.On.{at}
 use Rattle.covering.proofs.Laws.{crossing_turned}
 use Rattle.covering.proofs.Rows.{ends_law}
-use Rattle.covering.proofs.Lists.{any_none, any_head, any_tail, any_cases, any_left, any_right, any_parts}
-use Rattle.slabs.specs.Slabs.{IsOneOf, IsAt, IsOffRows, IsLeftOf, AreClosed, IsSteep, RowsLaw, TogetherLaw, ChainLaw}
+use Rattle.covering.proofs.Lists.{any_left, any_right, any_parts}
+use Rattle.slabs.specs.Slabs.{IsLeftOf, IsSteep, RowsLaw, TogetherLaw, ChainLaw}
 use Rattle.slabs.proofs.At.{Passes, passes, somewhere, crosses}
 use Rattle.slabs.proofs.Order.{all_head, all_tail}
 

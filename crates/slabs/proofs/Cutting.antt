@@ -1,8 +1,8 @@
 -- Edges cut one by one.
-use Rattle.std.proofs.Common.{◌≡◌, refl, sym, ◌∙◌, ap, subst, ℕ, zero, suc, ◌+◌, ◌%◌, ◌<◌, ◌≤◌, ◌⊎◌, inl, inr, arith, List, [], ◌∷◌, ◌++◌, length, get_or}
-use Rattle.std.specs.Prelude.{ℤ, pos, neg_ℤ, ◌+ℤ◌, ◌-ℤ◌, ◌*ℤ◌, ◌≤ℤ◌, ◌<ℤ◌, sum_by, Any}
+use Rattle.std.proofs.Common.{◌≡◌, refl, sym, subst, ℕ, zero, suc, ◌+◌, ◌<◌, ◌⊎◌, inl, inr, arith, List, [], ◌∷◌, ◌++◌, length, get_or}
+use Rattle.std.specs.Prelude.{ℤ, ◌+ℤ◌, ◌-ℤ◌, ◌≤ℤ◌, ◌<ℤ◌, sum_by, Any}
 use Rattle.std.specs.List.{All}
-use Rattle.std.proofs.lemmas.Int.{ints, by_lt_z}
+use Rattle.std.proofs.lemmas.Int.{ints}
 use Rattle.std.proofs.lemmas.List.Sums.{sum_by-cons, sum_by-append}
 use Rattle.std.proofs.lemmas.List.Elements.{All-push}
 use Rattle.plane.specs.Plane.{PlanePoint}
@@ -12,9 +12,9 @@ use Rattle.covering.specs.Edges.{turned, IsOctilinear, IsOnWay}
 use Rattle.covering.specs.Ends.{crossing_below}
 use Rattle.covering.proofs.Laws.{crossing_turned, on_turned}
 use Rattle.covering.proofs.Split.{split_crossing, split_on}
-use Rattle.covering.proofs.Lists.{any_none, any_head, any_tail, any_cases, any_left, any_right, any_parts}
+use Rattle.covering.proofs.Lists.{any_none, any_head, any_cases, any_left, any_right, any_parts}
 use Rattle.slabs.specs.Slabs.{IsOneOf, IsAt, IsInLine, IsCut, IsOnLevel, AreCuts}
-use Rattle.slabs.specs.Cutting.{IsPart, AreNeighbours, AreAdded, IsRest, BeginLaw, StepLaw, EndLaw, TurnedCutsLaw, MoreCutsLaw, LevelCutsLaw}
+use Rattle.slabs.specs.Cutting.{BeginLaw, StepLaw, EndLaw, TurnedCutsLaw, MoreCutsLaw, LevelCutsLaw}
 use Rattle.slabs.proofs.Below.{split_below, below_turned, level_below}
 use Rattle.slabs.proofs.Closed.{level_none}
 use Rattle.slabs.proofs.Order.{IsCutOf}

@@ -1,17 +1,15 @@
 -- A closed chain and the rectangle round it are closed together.
-use Rattle.std.proofs.Common.{◌≡◌, refl, sym, ◌∙◌, ap, subst, ℕ, ◌<◌, ◌⊎◌, inl, inr, arith, List, [], ◌∷◌, ◌++◌, length, get_or}
-use Rattle.std.specs.Prelude.{ℤ, pos, ◌*ℤ◌, ◌≤ℤ◌, ◌<ℤ◌, Any}
-use Rattle.std.specs.List.{All}
+use Rattle.std.proofs.Common.{◌≡◌, refl, sym, ◌∙◌, subst, ◌⊎◌, inl, inr, arith, List, [], ◌∷◌}
+use Rattle.std.specs.Prelude.{ℤ, pos, ◌*ℤ◌, ◌<ℤ◌}
 use Rattle.std.proofs.lemmas.Int.{ints}
-use Rattle.plane.specs.Plane.{PlanePoint, StrictlyIn, StrictlyWithin, box_of}
+use Rattle.plane.specs.Plane.{PlanePoint, StrictlyWithin, box_of}
 use Rattle.plane.proofs.Times.{mul_lt}
-use Rattle.grid_num.specs.declared.Point.{Point}
 use Rattle.covering.specs.Covering.{Edge, IsOn, edges_of}
 use Rattle.covering.specs.Edges.{IsOctilinear, AreOctilinear}
 use Rattle.covering.specs.Corners.{box_corners}
 use Rattle.covering.proofs.On.{on_level, on_upright}
 use Rattle.covering.proofs.Lists.{any_none, any_cases}
-use Rattle.slabs.specs.Slabs.{IsOneOf, IsOffRows, AreClosed}
+use Rattle.slabs.specs.Slabs.{IsOneOf, IsOffRows}
 use Rattle.slabs.specs.Outside.{FramedLaw}
 use Rattle.slabs.proofs.Order.{one_of}
 use Rattle.slabs.proofs.Closed.{chain_law, together_law}

@@ -1,20 +1,19 @@
 -- Closed edges cover what lies between the cuts of pairs, and their level edges.
-use Rattle.std.proofs.Common.{◌≡◌, refl, sym, ◌∙◌, ap, subst, ℕ, zero, suc, ◌+◌, ◌%◌, ◌<◌, ◌≤◌, ◌⊎◌, inl, inr, arith, List, [], ◌∷◌, length, get_or}
-use Rattle.std.specs.Prelude.{ℤ, pos, ◌+ℤ◌, ◌-ℤ◌, ◌*ℤ◌, ◌≤ℤ◌, ◌<ℤ◌, ◌↔◌, sum_by, Any}
+use Rattle.std.proofs.Common.{◌≡◌, refl, sym, subst, ℕ, zero, suc, ◌%◌, ◌⊎◌, inl, inr, arith, List, [], ◌∷◌, get_or}
+use Rattle.std.specs.Prelude.{ℤ, pos, ◌-ℤ◌, ◌*ℤ◌, ◌≤ℤ◌, ◌<ℤ◌, sum_by, Any}
 use Rattle.std.specs.List.{All}
 use Rattle.std.proofs.lemmas.Int.{ints, by_lt_z}
 use Rattle.plane.specs.Plane.{PlanePoint, grid_point}
 use Rattle.plane.proofs.Times.{mul_lt}
-use Rattle.covering.specs.Covering.{Edge, IsOn, Between, crossing, crossings, Covers}
+use Rattle.covering.specs.Covering.{Edge, IsOn, Between, crossing, Covers}
 use Rattle.covering.specs.Ends.{crossing_below}
 use Rattle.covering.proofs.Counts.{Counts}
-use Rattle.covering.proofs.On.{at}
 use Rattle.covering.proofs.Lists.{any_none, any_head, any_tail, any_cases, covers_on, covers_odd, covers_cases}
-use Rattle.slabs.specs.Slabs.{IsOneOf, IsAt, IsCut, AreCuts, AreClosed, AreInOrder, IsFramed, IsAmid, IsPair, IsWay, IsInPair, IsOnLevel, SlabsLaw, PairsLaw}
+use Rattle.slabs.specs.Slabs.{IsOneOf, IsAt, AreCuts, AreClosed, AreInOrder, IsFramed, IsAmid, IsPair, IsWay, IsInPair, IsOnLevel, SlabsLaw, PairsLaw}
 use Rattle.slabs.proofs.At.{somewhere, crosses, cut_on, on_at, along_down}
 use Rattle.slabs.proofs.Below.{CountsBelow, crosses_below}
-use Rattle.slabs.proofs.Order.{IsCutOf, AreLined, lined, one_of, all_head, all_tail}
-use Rattle.slabs.proofs.Pairs.{AreAligned, IsTop, aligned, odd_pair, pair_odd, pair_all, pair_framed}
+use Rattle.slabs.proofs.Order.{IsCutOf, AreLined, lined, one_of}
+use Rattle.slabs.proofs.Pairs.{AreAligned, aligned, odd_pair, pair_odd, pair_all, pair_framed}
 use Rattle.slabs.proofs.Closed.{far_of, far_left}
 use Rattle.slabs.proofs.Marks.{way, order_at, crossing_marks, below_marks, top_marks}
 
@@ -197,17 +196,17 @@ from_pair rows es cs p j l r closed cuts k i m off =
     (λ e. off (one_on es b.0 p b.1 (cut_on b.0 r p b.2.down b.2.line b.2.from b.2.to rt rb (subst (IsAt r p.scale p.y) (sym e) m.right.1)))) in
     by_lt_z {P = sum_by (crossing p) es % 2 ≡ 1} p.y (pos p.scale *ℤ l.finish.y)
     (λ h. (let one = full_in _ _ _ _ _ _ (crosses l p zl v.0.down m.left.1) m.top h left in
-        let none = none_in _ _ _ _ _ _ (crosses r p zr v.1.down m.right.1) right in
-        let o = pair_odd (crossing p) cs j l r (crossing_marks p) k.ways k.pairs k.line i one none in
-        let n = cuts.count p in
-        omega (arith, o, n)))
+    let none = none_in _ _ _ _ _ _ (crosses r p zr v.1.down m.right.1) right in
+    let o = pair_odd (crossing p) cs j l r (crossing_marks p) k.ways k.pairs k.line i one none in
+    let n = cuts.count p in
+    omega (arith, o, n)))
     (λ h. (let n = mul_lt p.scale l.start.y l.finish.y p.positive v.0.down in
-        let one = full_below _ _ _ _ _ _ (crosses_below l p zl v.0.down m.left.1) (omega (arith, ints, n, h)) m.bottom left in
-        let none = none_below _ _ _ _ _ _ (crosses_below r p zr v.1.down m.right.1) right in
-        let o = pair_odd (crossing_below p) cs j l r (below_marks p) k.ways k.pairs k.line i one none in
-        let c = cuts.below p in
-        let e = closed.ends p off in
-        omega (arith, o, c, e)))
+    let one = full_below _ _ _ _ _ _ (crosses_below l p zl v.0.down m.left.1) (omega (arith, ints, n, h)) m.bottom left in
+    let none = none_below _ _ _ _ _ _ (crosses_below r p zr v.1.down m.right.1) right in
+    let o = pair_odd (crossing_below p) cs j l r (below_marks p) k.ways k.pairs k.line i one none in
+    let c = cuts.below p in
+    let e = closed.ends p off in
+    omega (arith, o, c, e)))
 
 level_on : (es : List Edge) (p : PlanePoint) → IsOnLevel es p → Any (λ e. IsOn e p) es
 level_on es p a = (a.0, a.1, a.2, a.3, a.4.1)

@@ -1,18 +1,16 @@
 -- Which cuts are crossed on the way from a point to the left: those of its slab up to some place.
-use Rattle.std.proofs.Common.{◌≡◌, refl, sym, ◌∙◌, ap, ℕ, zero, suc, ◌+◌, ◌<◌, ◌≤◌, ◌⊎◌, inl, inr, arith, lit≤, List, [], ◌∷◌, length, get_or}
-use Rattle.std.specs.Prelude.{ℤ, pos, ◌+ℤ◌, ◌-ℤ◌, ◌*ℤ◌, ◌≤ℤ◌, ◌<ℤ◌}
-use Rattle.std.specs.List.{All}
+use Rattle.std.proofs.Common.{◌≡◌, ℕ, ◌+◌, ◌≤◌, ◌⊎◌, inl, inr, arith, List}
+use Rattle.std.specs.Prelude.{ℤ, pos, ◌*ℤ◌, ◌≤ℤ◌, ◌<ℤ◌}
 use Rattle.std.proofs.lemmas.Int.{ints, by_lt_z}
 use Rattle.plane.specs.Plane.{PlanePoint, grid_point}
 use Rattle.plane.proofs.Times.{mul_le}
-use Rattle.covering.specs.Covering.{Edge, IsOn, Between, crossing}
+use Rattle.covering.specs.Covering.{Edge, Between, crossing}
 use Rattle.covering.specs.Ends.{crossing_below}
 use Rattle.covering.proofs.Counts.{Counts}
-use Rattle.covering.proofs.On.{at}
 use Rattle.slabs.specs.Slabs.{IsOneOf, IsAt, IsInLine, IsCut, IsFramed, IsWay}
 use Rattle.slabs.proofs.At.{Passes, passes, ordered, somewhere, steep, crosses}
 use Rattle.slabs.proofs.Below.{CountsBelow, crosses_below}
-use Rattle.slabs.proofs.Order.{IsCutOf, one_of}
+use Rattle.slabs.proofs.Order.{one_of}
 use Rattle.slabs.proofs.Pairs.{IsMarking, IsTop}
 
 pub way : (rows : List ℤ) (e c : Edge) → IsCut rows e c → IsWay c
@@ -118,6 +116,6 @@ top_marks rows e c far y a l m row =
     (λ h. by_lt_z {P = IsTop (λ (y : ℤ). crossing (grid_point far y)) y c} c.start.y y
     (λ g. no (inr (elim (one_of (λ v. (v ≤ℤ c.start.y) ⊎ (c.finish.y ≤ℤ v)) rows y a.next row) [ inl v ↦ absurd (omega (arith, ints, v, g)) | inr v ↦ v ])))
     (λ g. (let e1 : c.start.y ≡ y = omega (arith, ints, h, g) in
-        let s = start_at c y z.0 e1 z.1 in
-        let f = left_of_far e c far a.line a.from l m in
-        inl (e1, count_here (crossing p c) c y z.0 far w.down e1 (omega (arith, ints, s, f)) n))))
+    let s = start_at c y z.0 e1 z.1 in
+    let f = left_of_far e c far a.line a.from l m in
+    inl (e1, count_here (crossing p c) c y z.0 far w.down e1 (omega (arith, ints, s, f)) n))))

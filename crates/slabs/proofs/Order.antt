@@ -1,11 +1,11 @@
 -- The order of cuts within a slab, and from slab to slab.
 use Rattle.std.proofs.Common.{◌≡◌, refl, sym, ◌∙◌, ap, subst, ℕ, zero, suc, ◌+◌, ◌<◌, ◌⊎◌, inl, inr, arith, lit≤, List, [], ◌∷◌, length, get_or}
-use Rattle.std.specs.Prelude.{ℤ, pos, ◌+ℤ◌, ◌-ℤ◌, ◌*ℤ◌, ◌≤ℤ◌, ◌<ℤ◌}
+use Rattle.std.specs.Prelude.{ℤ, pos, ◌+ℤ◌, ◌*ℤ◌, ◌≤ℤ◌, ◌<ℤ◌}
 use Rattle.std.specs.List.{All}
 use Rattle.std.proofs.lemmas.Int.{ints, by_lt_z}
 use Rattle.plane.specs.Plane.{PlanePoint}
-use Rattle.covering.specs.Covering.{Edge, IsOn, Between}
-use Rattle.slabs.specs.Slabs.{IsOneOf, IsAt, IsInLine, IsCut, AreClosed, IsOffRows, IsBefore, AreInOrder, IsFramed}
+use Rattle.covering.specs.Covering.{Edge, Between}
+use Rattle.slabs.specs.Slabs.{IsOneOf, IsInLine, IsCut, AreClosed, IsOffRows, IsBefore, AreInOrder, IsFramed}
 use Rattle.slabs.proofs.At.{steep, swapped, cut_on}
 
 pub one_of : {X : Type 0} (P : X → Type 0) (xs : List X) (x : X) → All P xs → IsOneOf xs x → P x

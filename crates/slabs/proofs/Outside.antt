@@ -1,25 +1,22 @@
 -- A chain and the rectangle round it cover together what the chain leaves of the rectangle.
-use Rattle.std.proofs.Common.{◌≡◌, refl, sym, ◌∙◌, ap, subst, ℕ, zero, suc, ◌+◌, ◌%◌, ◌<◌, ◌≤◌, ◌⊎◌, inl, inr, arith, List, [], ◌∷◌, ◌++◌, length, get_or}
-use Rattle.std.specs.Prelude.{ℤ, pos, neg_ℤ, ◌+ℤ◌, ◌-ℤ◌, ◌*ℤ◌, ◌≤ℤ◌, ◌<ℤ◌, ◌↔◌, sum_by, Any}
+use Rattle.std.proofs.Common.{◌≡◌, refl, sym, ◌∙◌, subst, ℕ, zero, suc, ◌+◌, ◌%◌, ◌<◌, ◌⊎◌, inl, inr, arith, List, [], ◌∷◌, ◌++◌, length, get_or}
+use Rattle.std.specs.Prelude.{ℤ, pos, ◌*ℤ◌, ◌≤ℤ◌, ◌<ℤ◌, sum_by, Any}
 use Rattle.std.specs.List.{All}
 use Rattle.std.proofs.lemmas.Int.{ints, by_lt_z}
 use Rattle.std.proofs.lemmas.List.Sums.{sum_by-cons, sum_by-append}
-use Rattle.plane.specs.Plane.{PlanePoint, Bounds, In, StrictlyIn, StrictlyWithin, box_of}
-use Rattle.plane.proofs.Times.{mul_add, mul_sub, mul_lt, mul_le}
+use Rattle.plane.specs.Plane.{PlanePoint, In, StrictlyIn, StrictlyWithin, box_of}
+use Rattle.plane.proofs.Times.{mul_add, mul_sub, mul_lt}
 use Rattle.grid_num.specs.declared.Point.{Point}
-use Rattle.covering.specs.Covering.{Edge, IsOn, Between, crossing, Covers, edges_to, edges_of}
+use Rattle.covering.specs.Covering.{Edge, IsOn, crossing, Covers, edges_to, edges_of}
 use Rattle.covering.specs.Edges.{turned, IsOctilinear, AreOctilinear}
 use Rattle.covering.specs.Corners.{box_corners}
-use Rattle.covering.proofs.Counts.{Counts}
-use Rattle.covering.proofs.On.{at, on_level, on_upright}
 use Rattle.covering.proofs.Laws.{crossing_turned}
 use Rattle.covering.proofs.Repeats.{box_cover_law, strict_box_cover_law}
-use Rattle.covering.proofs.Lists.{any_none, any_head, any_tail, any_cases, any_left, any_right, any_parts, covers_on, covers_odd, covers_cases}
-use Rattle.slabs.specs.Slabs.{IsOneOf, IsOffRows, IsLeftOf, AreClosed}
-use Rattle.slabs.specs.Outside.{IsOutside, OutsideLaw, FramedLaw}
+use Rattle.covering.proofs.Lists.{any_left, any_right, any_parts, covers_on, covers_odd, covers_cases}
+use Rattle.slabs.specs.Outside.{IsOutside, OutsideLaw}
 use Rattle.slabs.proofs.At.{Passes, passes, somewhere, crosses}
-use Rattle.slabs.proofs.Order.{all_head, all_tail, one_of}
-use Rattle.slabs.proofs.Closed.{steep_of, turned_octilinear, level_none, even_law, chain_law, together_law}
+use Rattle.slabs.proofs.Order.{all_head, all_tail}
+use Rattle.slabs.proofs.Closed.{steep_of, turned_octilinear, level_none, even_law}
 use Rattle.slabs.proofs.Law.{told_some}
 
 -- ---- what holds of all corners holds of the ends of all edges
@@ -220,18 +217,21 @@ module _ (x0 x1 y0 y1 : ℤ) (cs : List Point) (p : PlanePoint) where
       elim (told_some (edges_of cs) p) [
         | inl a ↦ (inside (on_strictly all a), inr a)
         | inr off ↦ elim beyond [
-          | inl s ↦
-              (inside s,
-              inl (elim (covers_cases (edges_of cs ++ Rim) p c) [
-                | inl a ↦ absurd (elim (any_parts (λ e. IsOn e p) (edges_of cs) Rim a) [ inl b ↦ off b | inr b ↦ rim_not_strictly lx ly b s ])
-                | inr odd ↦ uncovered _ refl (let w = ((strict_box_cover_law x0 x1 y0 y1 p lx ly).1 s).odd in omega (arith, odd, w, sum)) off
-              ]))
+          | inl s ↦ (
+            inside s,
+            inl (elim (covers_cases (edges_of cs ++ Rim) p c) [
+              | inl a ↦ absurd (elim (any_parts (λ e. IsOn e p) (edges_of cs) Rim a) [ inl b ↦ off b | inr b ↦ rim_not_strictly lx ly b s ])
+              | inr odd ↦ uncovered _ refl (let w = ((strict_box_cover_law x0 x1 y0 y1 p lx ly).1 s).odd in omega (arith, odd, w, sum)) off
+            ]),
+          )
           | inr b ↦
-              (let even = even_beyond o all b in
-              (elim (covers_cases (edges_of cs ++ Rim) p c) [
-                | inl a ↦ elim (any_parts (λ e. IsOn e p) (edges_of cs) Rim a) [ inl d ↦ absurd (off d) | inr d ↦ (box_cover_law x0 x1 y0 y1 p lx ly).0 (covers_on Rim p d) ]
-                | inr odd ↦ (box_cover_law x0 x1 y0 y1 p lx ly).0 (covers_odd Rim p (omega (arith, odd, even, sum)))
-              ], inl (uncovered _ refl even off)))
+              (let even = even_beyond o all b in (
+                elim (covers_cases (edges_of cs ++ Rim) p c) [
+                  | inl a ↦ elim (any_parts (λ e. IsOn e p) (edges_of cs) Rim a) [ inl d ↦ absurd (off d) | inr d ↦ (box_cover_law x0 x1 y0 y1 p lx ly).0 (covers_on Rim p d) ]
+                  | inr odd ↦ (box_cover_law x0 x1 y0 y1 p lx ly).0 (covers_odd Rim p (omega (arith, odd, even, sum)))
+                ],
+                inl (uncovered _ refl even off),
+              ))
         ]
       ]
 

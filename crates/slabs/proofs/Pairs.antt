@@ -1,8 +1,8 @@
 -- Lists of marks in pairs: where marks fall from 1 to 0 within a slab, their sum is odd exactly where some pair has one.
-use Rattle.std.proofs.Common.{◌≡◌, refl, sym, ◌∙◌, ap, ℕ, zero, suc, ◌+◌, ◌%◌, ◌<◌, ◌≤◌, ◌⊎◌, inl, inr, arith, List, [], ◌∷◌, length, get_or}
+use Rattle.std.proofs.Common.{◌≡◌, refl, sym, ◌∙◌, ap, ℕ, zero, suc, ◌+◌, ◌%◌, ◌≤◌, ◌⊎◌, inl, inr, arith, List, [], ◌∷◌, get_or}
 use Rattle.std.specs.Prelude.{ℤ, ◌≤ℤ◌, ◌<ℤ◌, sum_by}
 use Rattle.std.specs.List.{All}
-use Rattle.std.proofs.lemmas.Int.{ints, by_lt_z}
+use Rattle.std.proofs.lemmas.Int.{ints}
 use Rattle.std.proofs.lemmas.List.Sums.{sum_by-cons}
 use Rattle.covering.specs.Covering.{Edge}
 use Rattle.slabs.specs.Slabs.{IsFramed, IsPair, IsWay}
@@ -154,14 +154,16 @@ aligned f Row (c ∷ []) ways b rows tops even =
 aligned f Row (c ∷ d ∷ cs) ways b rows tops even =
     let waysd = all_tail IsWay c (d ∷ cs) ways in
     let rowsd = all_tail (λ c. Row c.start.y) c (d ∷ cs) rows in
-    let one = framed_two (all_head (IsBeside c) d cs b.0) in
-    (one, aligned f Row cs (all_tail IsWay d cs waysd) b.1.1 (all_tail (λ c. Row c.start.y) d cs rowsd)
-    (λ y r. all_tail (IsTop f y) d cs (all_tail (IsTop f y) c (d ∷ cs) (tops y r)))
-    (λ y r. (let t = tops y r in
-        let h = same_tops f y c d one.top (all_head (IsTop f y) c (d ∷ cs) t) (all_head (IsTop f y) d cs (all_tail (IsTop f y) c (d ∷ cs) t)) in
-        let s = sum_two (f y) c d cs in
-        let e = even y r in
-        omega (arith, h, s, e))))
+    let one = framed_two (all_head (IsBeside c) d cs b.0) in (
+      one,
+      aligned f Row cs (all_tail IsWay d cs waysd) b.1.1 (all_tail (λ c. Row c.start.y) d cs rowsd)
+          (λ y r. all_tail (IsTop f y) d cs (all_tail (IsTop f y) c (d ∷ cs) (tops y r)))
+          (λ y r. (let t = tops y r in
+          let h = same_tops f y c d one.top (all_head (IsTop f y) c (d ∷ cs) t) (all_head (IsTop f y) d cs (all_tail (IsTop f y) c (d ∷ cs) t)) in
+          let s = sum_two (f y) c d cs in
+          let e = even y r in
+          omega (arith, h, s, e))),
+    )
   where
     framed_two : IsBeside c d → IsFramed c d
     framed_two (inl w) = w

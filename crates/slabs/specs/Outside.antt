@@ -6,7 +6,7 @@ use Rattle.grid_num.specs.declared.Point.{Point}
 use Rattle.covering.specs.Covering.{Edge, IsOn, Covers, edges_of}
 use Rattle.covering.specs.Edges.{AreOctilinear}
 use Rattle.covering.specs.Corners.{box_corners}
-use Rattle.slabs.specs.Slabs.{AreClosed, IsOneOf, starts}
+use Rattle.slabs.specs.Slabs.{AreClosed, IsOneOf}
 
 -- p is in the frame, and not covered or on an edge: where the edges are an outline, that is the frame's part outside
 -- the outline together with its limits
