@@ -1,6 +1,6 @@
 -- What holds of corners with x and y exchanged holds of the corners.
-use Rattle.std.proofs.Common.{◌≡◌, refl, sym, ◌∙◌, ap, subst, ℕ, zero, suc, ◌+◌, ◌<◌, ◌≤◌, ◌⊎◌, inl, inr, arith, List, [], ◌∷◌, length, get_or}
-use Rattle.std.specs.Prelude.{ℤ, pos, neg_ℤ, ◌-ℤ◌, ◌*ℤ◌, map, Option, None, Some, MatchOption}
+use Rattle.std.proofs.Common.{◌≡◌, refl, sym, ◌∙◌, ap, subst, ℕ, ◌<◌, inl, inr, arith, List, [], ◌∷◌, length, get_or}
+use Rattle.std.specs.Prelude.{ℤ, pos, ◌*ℤ◌, map, Option, None, Some, MatchOption}
 use Rattle.std.specs.List.{All}
 use Rattle.std.proofs.lemmas.Int.{ints}
 use Rattle.std.proofs.lemmas.List.{length-map, get_or-map, get_or_default}
@@ -9,7 +9,7 @@ use Rattle.grid_num.specs.declared.Point.{Point}
 use Rattle.covering.specs.Covering.{Edge, IsOn, edges_to, edges_of}
 use Rattle.covering.specs.Edges.{IsOctilinear}
 use Rattle.outline_slab.specs.Rules.{IsInSpan, IsSide, IsNext, IsJoint, AreCrossing, NoneCrossing, edge, no_edge, no_corner}
-use Rattle.outline_slab.specs.Faults.{IsLeastCrossing, IsBefore}
+use Rattle.outline_slab.specs.Faults.{IsLeastCrossing}
 use Rattle.outline_slab.specs.Exchange.{exchanged, all_exchanged}
 use Rattle.outline_slab.proofs.Chain.{edges_length}
 

@@ -1,6 +1,6 @@
 -- An outline and the frame round it.
-use Rattle.std.proofs.Common.{◌≡◌, refl, sym, ◌∙◌, ap, subst, ℕ, zero, suc, ◌<◌, ◌≤◌, ◌⊎◌, inl, inr, arith, List, [], ◌∷◌, ◌++◌, length, get_or}
-use Rattle.std.specs.Prelude.{ℤ, ◌≤ℤ◌, ◌<ℤ◌, ◌↔◌, map}
+use Rattle.std.proofs.Common.{◌≡◌, refl, sym, ◌∙◌, ap, subst, ℕ, zero, suc, ◌<◌, ◌⊎◌, inl, inr, arith, List, [], ◌∷◌, ◌++◌, length, get_or}
+use Rattle.std.specs.Prelude.{◌≤ℤ◌, ◌<ℤ◌, ◌↔◌}
 use Rattle.std.specs.List.{All}
 use Rattle.std.proofs.lemmas.Int.{ints}
 use Rattle.std.proofs.lemmas.List.{map-append}
@@ -18,7 +18,7 @@ use Rattle.slabs.proofs.Outside.{outside_law}
 use Rattle.slabs.proofs.Framed.{framed_law}
 use Rattle.outline_slab.specs.declared.side.Side.{Side}
 use Rattle.outline_slab.specs.Rules.{IsSimple, IsKept, no_corner}
-use Rattle.outline_slab.specs.Cuts.{all_edges, IsReached, IsSound, IsInSome}
+use Rattle.outline_slab.specs.Cuts.{all_edges, IsSound, IsInSome}
 use Rattle.outline_slab.proofs.Simple.{closed_chain, sound_chain}
 
 -- ---- the sides that the code collects

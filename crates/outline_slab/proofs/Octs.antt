@@ -1,13 +1,13 @@
 -- Lists of octagons, one more at a time.
 use Rattle.std.proofs.Common.{◌≡◌, refl, sym, ◌∙◌, ap, subst, ℕ, zero, suc, ◌+◌, ◌*◌, ◌/◌, ◌<◌, ◌≤◌, ◌⊎◌, inl, inr, arith, List, [], ◌∷◌, ◌++◌, length, get_or, take}
-use Rattle.std.specs.Prelude.{ℤ, ◌↔◌, Any, map}
+use Rattle.std.specs.Prelude.{ℤ, ◌↔◌}
 use Rattle.std.specs.List.{All}
 use Rattle.std.proofs.lemmas.Bool.{cases_lt}
 use Rattle.std.proofs.lemmas.List.{length-map, get_or-map}
 use Rattle.plane.specs.Plane.{PlanePoint, Bounds, In}
 use Rattle.covering.specs.Covering.{Edge, IsOn, Covers}
 use Rattle.covering.proofs.Lists.{any_none, any_head, any_cases, any_left, any_right, any_parts}
-use Rattle.slabs.specs.Slabs.{IsOneOf, IsPair, IsAmid, IsInPair, IsOnLevel, AreCuts, AreClosed, AreInOrder, IsCut, starts}
+use Rattle.slabs.specs.Slabs.{IsOneOf, IsPair, IsAmid, IsInPair, IsOnLevel, AreCuts, AreClosed, AreInOrder, starts}
 use Rattle.slabs.proofs.Law.{slabs_law, pairs_law}
 use Rattle.slabs.proofs.Closed.{rows_law}
 use Rattle.slabs.proofs.Order.{one_of}
@@ -15,7 +15,7 @@ use Rattle.slabs.proofs.Pairs.{pair_all}
 use Rattle.outline_slab.specs.declared.side.Side.{Side}
 use Rattle.outline_slab.specs.Side.{edge_of}
 use Rattle.outline_slab.specs.Rules.{no_edge}
-use Rattle.outline_slab.specs.Cuts.{all_edges, IsReached, IsSound, IsInRows, HasRows, AreTwo, ArePaired, IsInSome}
+use Rattle.outline_slab.specs.Cuts.{all_edges, IsReached, IsSound, IsInRows, HasRows, ArePaired, IsInSome}
 use Rattle.outline_slab.proofs.Sides.{all_length, read_edge, taken_more, part_reached}
 
 pub some_pushed : (octs : List Bounds) (o : Bounds) (p : PlanePoint) → IsInSome (octs ++ o ∷ []) p ↔ (IsInSome octs p ⊎ In o p)

@@ -1,20 +1,18 @@
 -- Lists of sides as lists of edges.
-use Rattle.std.proofs.Common.{◌≡◌, refl, sym, ◌∙◌, ap, subst, ℕ, zero, suc, ◌+◌, ◌<◌, ◌≤◌, ◌⊎◌, inl, inr, arith, List, [], ◌∷◌, ◌++◌, length, get_or, take}
-use Rattle.std.specs.Prelude.{ℤ, pos, negsuc, neg_ℤ, ◌+ℤ◌, ◌-ℤ◌, ◌*ℤ◌, ◌≤ℤ◌, ◌<ℤ◌, map, Any}
+use Rattle.std.proofs.Common.{◌≡◌, sym, ◌∙◌, ap, subst, ℕ, ◌+◌, ◌<◌, ◌≤◌, ◌⊎◌, inl, inr, arith, List, [], ◌∷◌, ◌++◌, length, get_or, take}
+use Rattle.std.specs.Prelude.{ℤ, pos, negsuc, neg_ℤ, ◌+ℤ◌, ◌-ℤ◌, ◌≤ℤ◌, ◌<ℤ◌, Any}
 use Rattle.std.specs.Int.RustNames.{unsigned_abs}
 use Rattle.std.specs.List.{All}
 use Rattle.std.specs.List.Sorted.{IsPermutation}
 use Rattle.std.proofs.lemmas.Int.{ints}
-use Rattle.std.proofs.lemmas.List.{length-map, get_or-map, get_or_default, map-append, append_assoc, take_more, take_all}
+use Rattle.std.proofs.lemmas.List.{length-map, get_or-map, map-append, append_assoc, take_more, take_all}
 use Rattle.std.proofs.lemmas.List.Elements.{All-push}
 use Rattle.std.proofs.lemmas.List.Sorted.{All-permutation, sum_by-IsPermutation, IsPermutation-map}
-use Rattle.plane.specs.Plane.{PlanePoint}
 use Rattle.plane.specs.Narrow.{IsNearZero}
 use Rattle.grid_num.specs.declared.Point.{Point}
-use Rattle.octagon.specs.Bounded.{IsInReach}
 use Rattle.covering.specs.Covering.{Edge, IsOn, Between, crossing, edges_of}
 use Rattle.covering.specs.Ends.{crossing_below}
-use Rattle.covering.specs.Edges.{turned, IsOctilinear, AreOctilinear}
+use Rattle.covering.specs.Edges.{turned, IsOctilinear}
 use Rattle.covering.proofs.Laws.{any_permutation}
 use Rattle.covering.proofs.Lists.{any_head, any_left, any_right}
 use Rattle.slabs.specs.Slabs.{IsOneOf, IsAt, IsInLine, IsCut, AreCuts, IsBefore, AreInOrder}

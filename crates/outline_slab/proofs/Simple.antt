@@ -1,27 +1,24 @@
 -- The edges of a simple chain close up and meet in rows alone.
-use Rattle.std.proofs.Common.{◌≡◌, refl, sym, ◌∙◌, ap, subst, ℕ, zero, suc, ◌+◌, ◌<◌, ◌≤◌, ◌⊎◌, inl, inr, arith, List, [], ◌∷◌, ◌++◌, length, get_or}
-use Rattle.std.specs.Prelude.{ℤ, pos, ◌*ℤ◌, ◌≤ℤ◌, ◌<ℤ◌, map, Any}
+use Rattle.std.proofs.Common.{◌≡◌, sym, ◌∙◌, ap, subst, ℕ, zero, suc, ◌<◌, ◌≤◌, inl, inr, arith, List, [], ◌∷◌, length, get_or}
+use Rattle.std.specs.Prelude.{ℤ, pos, ◌*ℤ◌}
 use Rattle.std.specs.List.{All}
 use Rattle.std.proofs.lemmas.Bool.{cases_lt}
 use Rattle.std.proofs.lemmas.Int.{ints}
 use Rattle.std.proofs.lemmas.List.{length-map, get_or-map, get_or_default}
-use Rattle.plane.specs.Plane.{PlanePoint, Bounds, StrictlyWithin, IsOct, box_of}
+use Rattle.plane.specs.Plane.{PlanePoint}
 use Rattle.plane.specs.Narrow.{IsNearZero}
 use Rattle.grid_num.specs.declared.Point.{Point}
 use Rattle.octagon.specs.Bounded.{IsInReach}
-use Rattle.covering.specs.Covering.{Edge, IsOn, edges_to, edges_of}
-use Rattle.covering.specs.Corners.{box_corners}
+use Rattle.covering.specs.Covering.{Edge, IsOn, edges_of}
 use Rattle.covering.specs.Edges.{IsOctilinear, AreOctilinear}
 use Rattle.slabs.specs.Slabs.{IsOneOf, IsOffRows, AreClosed, starts}
-use Rattle.slabs.specs.Outside.{IsFrame}
 use Rattle.slabs.proofs.Closed.{chain_law}
 use Rattle.slabs.proofs.Cutting.{one_is}
 use Rattle.slabs.proofs.Order.{all_head, all_tail}
 use Rattle.slabs.proofs.Outside.{ends_all}
-use Rattle.outline_slab.specs.Rules.{IsSide, IsSimple, IsKept, IsWithin, IsNext, AreCrossing, NoneCrossing, edge, no_edge, no_corner}
-use Rattle.outline_slab.specs.Cuts.{IsReached, IsSound}
+use Rattle.outline_slab.specs.Rules.{IsSide, IsSimple, IsKept, IsWithin, AreCrossing, NoneCrossing, edge, no_edge}
+use Rattle.outline_slab.specs.Cuts.{IsSound}
 use Rattle.outline_slab.proofs.Chain.{edges_length}
-use Rattle.outline_slab.proofs.Crossings.{side_of}
 
 all_octilinear : (es : List Edge) → All IsSide es → AreOctilinear es
 unfolding AreOctilinear

@@ -1,9 +1,9 @@
 -- The rectangle round an outline that is one unit wider than the outline's frame.
-use Rattle.std.proofs.Common.{◌≡◌, refl, sym, ◌∙◌, ap, subst, ℕ, ◌<◌, ◌≤◌, inl, inr, arith, List, length, get_or}
-use Rattle.std.specs.Prelude.{ℤ, pos, neg_ℤ, ◌+ℤ◌, ◌-ℤ◌, ◌*ℤ◌, ◌≤ℤ◌, ◌<ℤ◌, ◌↔◌}
+use Rattle.std.proofs.Common.{◌≡◌, refl, subst, arith, List, get_or}
+use Rattle.std.specs.Prelude.{ℤ, pos, neg_ℤ, ◌+ℤ◌, ◌-ℤ◌, ◌≤ℤ◌, ◌↔◌}
 use Rattle.std.specs.List.{All}
 use Rattle.std.proofs.lemmas.Int.{ints}
-use Rattle.plane.specs.Plane.{PlanePoint, Bounds, Within, StrictlyWithin, In, IsOct, IsTight, box_of, grid_point}
+use Rattle.plane.specs.Plane.{PlanePoint, Bounds, Within, In, IsOct, IsTight, box_of, grid_point}
 use Rattle.plane.specs.Narrow.{IsNearZero}
 use Rattle.plane.proofs.Tight.{tight_law, same_points}
 use Rattle.plane.proofs.Equal.{equal}

@@ -1,12 +1,12 @@
 -- Sides as the code cuts them.
-use Rattle.std.specs.Prelude.{◌≡◌, ℕ, ◌*◌, ◌+◌, ◌<◌, ◌≤◌, ◌≤ℤ◌, ℤ, List, length, map, slice_index_or, Any}
+use Rattle.std.specs.Prelude.{ℕ, ◌<◌, ◌≤◌, ◌≤ℤ◌, ℤ, List, length, map, slice_index_or, Any}
 use Rattle.std.specs.List.{All}
 use Rattle.plane.specs.Plane.{PlanePoint, Bounds, In}
 use Rattle.plane.specs.Narrow.{IsNearZero}
 use Rattle.octagon.specs.Bounded.{IsInReach}
-use Rattle.covering.specs.Covering.{Edge, IsOn}
+use Rattle.covering.specs.Covering.{Edge}
 use Rattle.covering.specs.Edges.{IsOctilinear}
-use Rattle.slabs.specs.Slabs.{IsOneOf, IsWay, IsFramed, IsPair, IsAmid}
+use Rattle.slabs.specs.Slabs.{IsOneOf, IsWay, IsFramed, IsPair}
 use Rattle.outline_slab.specs.declared.side.Side.{Side}
 use Rattle.outline_slab.specs.Side.{edge_of}
 

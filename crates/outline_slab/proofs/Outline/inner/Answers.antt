@@ -1,6 +1,3 @@
-use Rattle.std.proofs.Common.{◌≡◌}
-use Rattle.covering.specs.Covering.{edges_of}
-use Rattle.outline_slab.specs.Cuts.{all_edges}
 use Rattle.outline_slab.proofs.Simple.{closed_chain, sound_chain}
 use Rattle.outline_slab.proofs.Frames.{chain_edges}
 use Rattle.outline_slab.proofs.Outline.inner.Goals as goal

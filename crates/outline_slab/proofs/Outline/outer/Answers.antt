@@ -1,9 +1,8 @@
-use Rattle.std.proofs.Common.{◌≡◌, subst}
 use Rattle.std.specs.Prelude.{◌↔◌}
 use Rattle.std.proofs.lemmas.Result.{IfOk-weaker}
 use Rattle.plane.specs.Plane.{PlanePoint}
 use Rattle.covering.specs.Covering.{Covers, edges_of}
-use Rattle.slabs.specs.Outside.{IsFrame, IsOutside}
+use Rattle.slabs.specs.Outside.{IsOutside}
 use Rattle.outline_slab.specs.Cuts.{all_edges, IsInSome}
 use Rattle.outline_slab.proofs.Frames.{both_edges, closed_both, sound_both, outside_of}
 use Rattle.outline_slab.proofs.Outline.outer.Goals as goal

@@ -1,7 +1,6 @@
 use Rattle.std.proofs.Common.{arith, List, [], ◌∷◌, ◌++◌}
 use Rattle.std.proofs.lemmas.Int.{ints}
 use Rattle.std.proofs.lemmas.Result.{IfOk-weaker}
-use Rattle.grid_num.specs.declared.Point.{Point}
 use Rattle.covering.specs.Covering.{Edge}
 use Rattle.slabs.specs.Slabs.{AreCuts}
 use Rattle.slabs.specs.Cutting.{AreAdded}

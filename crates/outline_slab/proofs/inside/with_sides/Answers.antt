@@ -1,6 +1,3 @@
-use Rattle.std.proofs.Common.{◌≡◌, sym, ◌∙◌, arith}
-use Rattle.covering.specs.Covering.{edges_of}
-use Rattle.outline_slab.proofs.Chain.{edges_length}
 use Rattle.outline_slab.proofs.Sides.{chain_more, chain_all}
 use Rattle.outline_slab.proofs.inside.with_sides.Goals as goal
 

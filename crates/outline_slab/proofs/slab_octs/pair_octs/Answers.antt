@@ -1,4 +1,3 @@
-use Rattle.std.proofs.Common.{arith}
 use Rattle.std.proofs.lemmas.List.Elements.{All-push}
 use Rattle.plane.specs.Plane.{IsOct}
 use Rattle.outline_slab.proofs.Octs.{pair_at, pairs_more, pairs_all}

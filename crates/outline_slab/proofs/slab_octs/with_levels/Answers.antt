@@ -1,5 +1,5 @@
 use Rattle.std.proofs.Common.{sym}
-use Rattle.outline_slab.specs.Cuts.{all_edges, IsSound}
+use Rattle.outline_slab.specs.Cuts.{IsSound}
 use Rattle.outline_slab.proofs.Sides.{read_fact, taken_all}
 use Rattle.outline_slab.proofs.Octs.{levels_more}
 use Rattle.outline_slab.proofs.slab_octs.with_levels.Goals as goal

@@ -1,11 +1,8 @@
 use Rattle.std.proofs.Common.{◌≡◌, sym, rules, arith, get_or}
-use Rattle.std.specs.List.{All}
 use Rattle.std.proofs.lemmas.Int.{ints}
 use mir.Val.{to_z, of_z}
 use mir.Syntax.{w64}
-use Rattle.outline_slab.specs.Side.{edge_of}
-use Rattle.outline_slab.specs.Cuts.{all_edges, IsInRows}
-use Rattle.outline_slab.proofs.Sides.{taken_more, taken_all, ends_pushed, no_side}
+use Rattle.outline_slab.proofs.Sides.{taken_all, ends_pushed, no_side}
 use Rattle.outline_slab.proofs.slab_rows.ends_of.Goals as goal
 
 pub each-preserved : goal.each-preserved

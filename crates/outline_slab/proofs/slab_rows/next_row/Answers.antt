@@ -1,7 +1,6 @@
-use Rattle.std.proofs.Common.{◌≡◌, sym, subst, rules, arith, get_or, true, false}
-use Rattle.std.specs.Prelude.{ℤ, pos, int_le, ◌<ℤ◌, FitsSigned}
-use Rattle.std.specs.List.Sorted.{IsPartitionPoint}
-use Rattle.std.proofs.lemmas.Int.{ints, to_z-of_z}
+use Rattle.std.proofs.Common.{◌≡◌, rules, arith, get_or}
+use Rattle.std.specs.Prelude.{pos, int_le}
+use Rattle.std.proofs.lemmas.Int.{ints}
 use Rattle.std.proofs.lemmas.List.Sorted.{IsPartitionPoint-from_clause}
 use mir.Val.{to_z, of_z}
 use mir.Syntax.{w64}
