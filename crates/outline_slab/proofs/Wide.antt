@@ -10,7 +10,7 @@ use Rattle.plane.proofs.Equal.{equal}
 use Rattle.plane.proofs.Moved.{grid_law, tight_box_law}
 use Rattle.grid_num.specs.declared.Point.{Point}
 use Rattle.octagon.specs.Bounded.{IsInRange}
-use Rattle.slabs.specs.Outside.{IsFrame}
+use Rattle.slabs.specs.Outside.{IsFrame, IsAtMost}
 use Rattle.outline_slab.specs.Rules.{IsWithin}
 use Rattle.outline_slab.specs.Cuts.{IsNearby}
 
@@ -142,3 +142,43 @@ pub box_is : (l r t b x0 x1 y0 y1 s0 s1 d0 d1 : ℤ) → x0 ≡ l → x1 ≡ r �
 box_is l r t b x0 x1 y0 y1 s0 s1 d0 d1 e1 e2 e3 e4 e5 e6 e7 e8 =
     equal (record { x0 = x0; x1 = x1; y0 = y0; y1 = y1; s0 = s0; s1 = s1; d0 = d0; d1 = d1 }) (box_of l r t b)
     (record { x0 = e1; x1 = e2; y0 = e3; y1 = e4; s0 = e5; s1 = e6; d0 = e7; d1 = e8 })
+
+-- ---- and the least one
+all_inner : (cs : List Point) (b : Bounds) → IsFrame cs b → All (λ q. Within (box_of (b.x0 +ℤ pos 1) (b.x1 -ℤ pos 1) (b.y0 +ℤ pos 1) (b.y1 -ℤ pos 1)) q.x q.y) cs
+all_inner cs b f = λ k d h.
+    let i = f.around k d h in
+    record {
+      x_low = omega (arith, ints, i.x_low);
+      x_high = omega (arith, ints, i.x_high);
+      y_low = omega (arith, ints, i.y_low);
+      y_high = omega (arith, ints, i.y_high);
+      s_low = omega (arith, ints, i.x_low, i.y_low);
+      s_high = omega (arith, ints, i.x_high, i.y_high);
+      d_low = omega (arith, ints, i.x_low, i.y_high);
+      d_high = omega (arith, ints, i.x_high, i.y_low);
+    }
+
+pub round_least : (cs : List Point) (f c o : Bounds) (l r t b : ℤ) → IsTight f → ((d : Bounds) (p : PlanePoint) → All (λ q. Within d q.x q.y) cs → In f p → In d p)
+    → IsRound f l r t b → c ≡ box_of l r t b → IsOct o → ((x y : ℤ) → Within o x y ↔ Within c x y) → (d : Bounds) → IsFrame cs d → IsAtMost o d
+round_least cs f c o l r t b tight least e is oct same d frame =
+    let w = ordered f tight in
+    let el = e.left in
+    let er = e.right in
+    let et = e.top in
+    let eb = e.bottom in
+    let box = tight_box_law l r t b (let h = w.0 in omega (arith, ints, h, el, er)) (let h = w.1 in omega (arith, ints, h, et, eb)) in
+    let whole : o ≡ round l r t b = same_points o (round l r t b) oct.tight box (subst (λ (d : Bounds). (x y : ℤ) → Within o x y ↔ Within d x y) is same) in
+    let a = (tight_law f).0 tight in
+    let n = box_of (d.x0 +ℤ pos 1) (d.x1 -ℤ pos 1) (d.y0 +ℤ pos 1) (d.y1 -ℤ pos 1) in
+    let at : (x y : ℤ) → Within f x y → Within n x y = λ x y v. (grid_law n x y).0 (least n (grid_point x y) (all_inner cs d frame) ((grid_law f x y).1 v)) in
+    let x0 = at f.x0 a.x0.0 a.x0.1 in
+    let x1 = at f.x1 a.x1.0 a.x1.1 in
+    let y0 = at a.y0.0 f.y0 a.y0.1 in
+    let y1 = at a.y1.0 f.y1 a.y1.1 in
+    rw whole
+    (record {
+      left = omega (arith, ints, x0.x_low, el);
+      right = omega (arith, ints, x1.x_high, er);
+      top = omega (arith, ints, y0.y_low, et);
+      bottom = omega (arith, ints, y1.y_high, eb);
+    })

@@ -1,12 +1,12 @@
 // Octagons of what an outline covers, and of what it leaves of a frame.
 ghost use Rattle.std.specs.Prelude.{◌≡◌, ◌↔◌, ◌++◌, pos, ◌+ℤ◌, ◌-ℤ◌, Any, IfOk};
 ghost use Rattle.std.specs.List.{All};
-ghost use Rattle.plane.specs.Plane.{PlanePoint, In, IsOct, box_of};
+ghost use Rattle.plane.specs.Plane.{Bounds, PlanePoint, In, IsOct, box_of};
 ghost use Rattle.plane.specs.Narrow.{IsNearZero};
 ghost use Rattle.octagon.specs.Bounded.{bounds_of};
 ghost use Rattle.covering.specs.Covering.{Covers, edges_of};
 ghost use Rattle.covering.specs.Corners.{box_corners};
-ghost use Rattle.slabs.specs.Outside.{IsFrame, IsOutside};
+ghost use Rattle.slabs.specs.Outside.{IsFrame, IsAtMost, IsOutside};
 ghost use Rattle.outline_slab.specs.Cuts.{all_edges, IsNearby};
 
 use crate::Outline;
@@ -26,9 +26,10 @@ impl Outline {
         covered_octs(alloc, &sides)
     }
 
-    /// The rectangle that is one unit wider than the frame on each side.
+    /// The least rectangle that has the outline inside, off its rim: it is one unit wider than the outline on each side.
     pub fn wide_frame(&self) -> Oct
         ensures frame { IsFrame self.now result }
+        ensures least { (b : Bounds) → IsFrame self.now b → IsAtMost result b }
         ensures oct { IsOct result }
     {
         let frame = self.frame();

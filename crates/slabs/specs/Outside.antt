@@ -1,5 +1,5 @@
 -- What edges leave of a frame round them.
-use Rattle.std.specs.Prelude.{◌≡◌, ◌⊎◌, ℤ, ◌<ℤ◌, ◌↔◌, List, ◌++◌, Any}
+use Rattle.std.specs.Prelude.{◌≡◌, ◌⊎◌, ℤ, ◌≤ℤ◌, ◌<ℤ◌, ◌↔◌, List, ◌++◌, Any}
 use Rattle.std.specs.List.{All}
 use Rattle.plane.specs.Plane.{PlanePoint, Bounds, In, StrictlyWithin, box_of}
 use Rattle.grid_num.specs.declared.Point.{Point}
@@ -17,6 +17,13 @@ IsOutside es b p = In b p × ((Covers es p → ⊥) ⊎ Any (λ e. IsOn e p) es)
 pub record IsFrame (cs : List Point) (b : Bounds) : Type 0 where
   pub box : b ≡ box_of b.x0 b.x1 b.y0 b.y1
   pub around : All (λ v. StrictlyWithin b v.x v.y) cs
+
+-- b reaches at least as far as a to each of the four sides
+pub record IsAtMost (a b : Bounds) : Type 0 where
+  pub left : b.x0 ≤ℤ a.x0
+  pub right : a.x1 ≤ℤ b.x1
+  pub top : b.y0 ≤ℤ a.y0
+  pub bottom : a.y1 ≤ℤ b.y1
 
 -- a chain and the rectangle round it, counted together, cover what the chain leaves of the rectangle
 abbrev pub OutsideLaw : Type 0
