@@ -248,7 +248,7 @@ fn notches_may_end_in_a_point_or_between_two(rt: HostRuntime) -> Result<(), Fail
 
 // A board of 10 mm with a slit from above and one from below, both 0.040002 mm wide; the neck between them is 0.2 mm high.
 #[test]
-fn a_neck_as_wide_as_twenty_grid_steps(rt: HostRuntime) -> Result<(), Fail> {
+fn a_neck_stands_between_two_slits(rt: HostRuntime) -> Result<(), Fail> {
     let corners = [
         (0, 0, 0),
         (495, 0, 0),
