@@ -1,0 +1,5 @@
+pub mod Replaced
+pub mod Lists
+pub mod Pieces
+pub mod Grid
+pub mod Steps
