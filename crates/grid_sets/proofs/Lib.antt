@@ -7,3 +7,4 @@ pub mod OneBands
 pub mod Apart
 pub mod Brushed
 pub mod Counting
+pub mod OctCount

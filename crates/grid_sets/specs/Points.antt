@@ -1,5 +1,5 @@
 -- Sets of grid points as lists of octagons, and the number of points of a set.
-use Rattle.std.specs.Prelude.{◌≡◌, ◌⊎◌, ◌↔◌, ℕ, List, [], ◌∷◌, length, ℤ}
+use Rattle.std.specs.Prelude.{◌≡◌, ◌⊎◌, ◌↔◌, ℕ, zero, suc, ◌+◌, List, [], ◌∷◌, length, ℤ}
 use Rattle.plane.specs.Plane.{Bounds, Within}
 
 -- one of the octagons has the grid point
@@ -37,3 +37,8 @@ pub record IsCount (P : ℤ → ℤ → Type 0) (n : ℕ) : Type 0 where
   pub spots : List Spot
   pub are : AreSpotsOf P spots
   pub count : length spots ≡ n
+
+-- 1 + 2 + .. + n: the points of a right triangle with n of them along each side
+unfoldable pub triangle : ℕ → ℕ
+triangle zero = 0
+triangle (suc n) = suc n + triangle n

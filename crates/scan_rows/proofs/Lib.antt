@@ -3,3 +3,4 @@ pub mod Lists
 pub mod Pieces
 pub mod Grid
 pub mod Steps
+pub mod Closed
