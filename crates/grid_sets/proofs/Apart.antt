@@ -1,15 +1,15 @@
 -- The cells of bands are apart, and each is tight.
-use Rattle.std.proofs.Common.{◌≡◌, refl, sym, subst, ap, ℕ, zero, suc, ◌+◌, ◌≤◌, ◌<◌, ◌⊎◌, inl, inr, List, [], ◌∷◌, ◌++◌, map, arith}
+use Rattle.std.proofs.Common.{◌≡◌, subst, ℕ, zero, suc, ◌+◌, ◌≤◌, ◌<◌, inl, inr, List, [], ◌∷◌, ◌++◌, map, arith}
 use Rattle.std.specs.Prelude.{ℤ, pos, ◌+ℤ◌, ◌≤ℤ◌, ◌<ℤ◌}
 use Rattle.std.specs.List.{All}
 use Rattle.std.proofs.lemmas.Int.{ints}
 use Rattle.std.proofs.lemmas.List.Elements.{All-nil, All-cons, All-append}
-use Rattle.plane.specs.Plane.{Bounds, Within, IsTight}
-use Rattle.grid_sets.specs.Rows.{Run, IsOnRun, OnRuns, Ascending, Row, OnRows, IsFilled, Descending, AreRows}
+use Rattle.plane.specs.Plane.{Bounds, IsTight}
+use Rattle.grid_sets.specs.Rows.{IsOnRun, OnRuns, Ascending, Row, OnRows, IsFilled, Descending}
 use Rattle.grid_sets.specs.Bands.{at, Band, row_of, rows_from, rows_of, AreBandsOf}
 use Rattle.grid_sets.specs.Cells.{cell_of, cells_of}
 use Rattle.grid_sets.specs.Points.{HasPoint, AreApart}
-use Rattle.grid_sets.specs.Laws.{CellPointsLaw, CellsApartLaw, CellsTightLaw}
+use Rattle.grid_sets.specs.Laws.{CellsApartLaw, CellsTightLaw}
 use Rattle.grid_sets.specs.declared.Slant.{Slant}
 use Rattle.grid_sets.proofs.Unique.{on_from, on_top}
 use Rattle.grid_sets.proofs.Cells.{cell_row, cell-IsTight}

@@ -1,9 +1,9 @@
 -- The rows of bands: taken apart, put together, and told by their first two.
-use Rattle.std.proofs.Common.{◌≡◌, refl, sym, ap, ◌∙◌, subst, ℕ, zero, suc, ◌+◌, ◌≤◌, ◌⊎◌, inl, inr, List, [], ◌∷◌, ◌++◌, map, append_assoc, arith}
-use Rattle.std.specs.Prelude.{ℤ, pos, ◌+ℤ◌, ◌-ℤ◌, ◌≤ℤ◌}
+use Rattle.std.proofs.Common.{◌≡◌, refl, sym, ap, ◌∙◌, subst, ℕ, zero, suc, ◌+◌, List, [], ◌∷◌, ◌++◌, map, arith}
+use Rattle.std.specs.Prelude.{ℤ}
 use Rattle.std.proofs.lemmas.Int.{ints}
 use Rattle.grid_sets.specs.Rows.{Run, Row}
-use Rattle.grid_sets.specs.Bands.{moved, reach, at, Band, row_of, rows_from, rows_of, IsMovedAlike, AreMovedAlike, IsJoining, Ends, AreBandsOf}
+use Rattle.grid_sets.specs.Bands.{moved, reach, at, Band, row_of, rows_from, IsMovedAlike, AreMovedAlike}
 use Rattle.grid_sets.specs.declared.Move.{Move}
 use Rattle.grid_sets.specs.declared.Move.TheVariants.{Left, Still, Right}
 use Rattle.grid_sets.specs.declared.End.{End}
@@ -122,4 +122,3 @@ alike_through [] (t ∷ ts) us h i = absurd h
 alike_through (s ∷ ss) [] us h i = absurd h
 alike_through (s ∷ ss) (t ∷ ts) [] h i = absurd i
 alike_through (s ∷ ss) (t ∷ ts) (u ∷ us) h i = (record { from = h.0.from ∙ i.0.from; to = h.0.to ∙ i.0.to }, alike_through ss ts us h.1 i.1)
-

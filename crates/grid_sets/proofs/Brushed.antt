@@ -1,9 +1,9 @@
 -- The cells plus a brush are the brush at the points of the rows.
-use Rattle.std.proofs.Common.{◌≡◌, ◌⊎◌, inl, inr, ℕ, ◌≤◌, List, [], ◌∷◌, arith}
-use Rattle.std.specs.Prelude.{ℤ, ◌↔◌}
+use Rattle.std.proofs.Common.{inl, inr, ℕ, ◌≤◌, List, [], ◌∷◌, arith}
+use Rattle.std.specs.Prelude.{ℤ}
 use Rattle.std.specs.List.{All}
 use Rattle.std.proofs.lemmas.List.Elements.{All-head, All-tail}
-use Rattle.plane.specs.Plane.{Bounds, PlanePoint, Within, In, IsTight, ball_of, IsInSum, moved}
+use Rattle.plane.specs.Plane.{Bounds, PlanePoint, Within, In, IsTight, ball_of, moved}
 use Rattle.brush.specs.Brush.{IsBrushed}
 use Rattle.brush.proofs.Brushed.{brush_law}
 use Rattle.grid_sets.specs.Cells.{cells_of, OnBrushed, IsBrushedByRows}

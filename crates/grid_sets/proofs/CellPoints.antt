@@ -1,9 +1,9 @@
 -- The points of the cells are those of the rows.
-use Rattle.std.proofs.Common.{◌≡◌, refl, sym, subst, ◌⊎◌, inl, inr, ℕ, suc, ◌+◌, ◌≤◌, ◌<◌, List, [], ◌∷◌, ◌++◌, map, arith}
+use Rattle.std.proofs.Common.{◌≡◌, sym, subst, ◌⊎◌, inl, inr, ℕ, suc, ◌+◌, ◌≤◌, ◌<◌, List, [], ◌∷◌, ◌++◌, map, arith}
 use Rattle.std.specs.Prelude.{ℤ, pos, ◌+ℤ◌, ◌↔◌}
-use Rattle.plane.specs.Plane.{Bounds, Within}
+use Rattle.plane.specs.Plane.{Bounds}
 use Rattle.grid_sets.specs.Rows.{Row, OnRuns, OnRows}
-use Rattle.grid_sets.specs.Bands.{at, Band, rows_of, AreBandsOf}
+use Rattle.grid_sets.specs.Bands.{at, Band, rows_of}
 use Rattle.grid_sets.specs.Cells.{cell_of, cells_of}
 use Rattle.grid_sets.specs.Points.{HasPoint}
 use Rattle.grid_sets.specs.Laws.{CellPointsLaw}

@@ -3,12 +3,11 @@ use Rattle.std.proofs.Common.{◌≡◌, ℕ, ◌≤◌, subst, arith}
 use Rattle.std.specs.Prelude.{ℤ, pos, negsuc, ◌+ℤ◌, ◌-ℤ◌, ◌≤ℤ◌}
 use Rattle.std.proofs.lemmas.Int.{ints}
 use Rattle.plane.specs.Plane.{Bounds, Within, IsTight}
-use Rattle.grid_sets.specs.Rows.{Run, IsOnRun}
-use Rattle.grid_sets.specs.Bands.{moved, reach, at}
+use Rattle.grid_sets.specs.Rows.{IsOnRun}
+use Rattle.grid_sets.specs.Bands.{moved, at}
 use Rattle.grid_sets.specs.Cells.{leftmost, rightmost, cell_of}
 use Rattle.grid_sets.specs.declared.Move.{Move}
 use Rattle.grid_sets.specs.declared.Move.TheVariants.{Left, Still, Right}
-use Rattle.grid_sets.specs.declared.End.{End}
 use Rattle.grid_sets.specs.declared.Slant.{Slant}
 
 -- the same with the fields apart, so that the moves can be matched

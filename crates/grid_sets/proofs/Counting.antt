@@ -1,8 +1,7 @@
 -- A finite set has one number of points.
 use Rattle.std.proofs.Common.{◌≡◌, refl, sym, subst, ◌∙◌, ◌⊎◌, inl, inr, ℕ, ◌+◌, ◌≤◌, List, [], ◌∷◌, ◌++◌, length, length-append, arith}
-use Rattle.std.specs.Prelude.{ℤ, ◌+ℤ◌, ◌-ℤ◌, ◌↔◌}
-use Rattle.std.proofs.lemmas.Int.{ints, by_lt_z}
-use Rattle.grid_sets.specs.Points.{Spot, IsListed, AreDistinct, AreSpotsOf, IsCount}
+use Rattle.std.specs.Prelude.{ℤ, ◌↔◌}
+use Rattle.grid_sets.specs.Points.{Spot, IsListed, AreDistinct, IsCount}
 use Rattle.grid_sets.specs.Laws.{CountLaw}
 
 -- ---- lists of points
@@ -30,11 +29,13 @@ take_out : (qs : List Spot) (x y : ℤ) → IsListed qs x y → (rest : List Spo
 take_out [] x y h = absurd h
 take_out (q ∷ qs) x y (inl h) = (qs, record { short = omega arith; kept = λ u v k. elim k [ inl e ↦ inl (e.0 ∙ sym h.0, e.1 ∙ sym h.1) | inr m ↦ inr m ] })
 take_out (q ∷ qs) x y (inr h) =
-    let r = take_out qs x y h in
-    (q ∷ r.0, record {
-      short = let e : length qs ≡ length r.0 + 1 = r.1.short in omega arith;
-      kept = λ u v k. elim k [ inl e ↦ inr (inl e) | inr m ↦ elim (r.1.kept u v m) [ inl e ↦ inl e | inr n ↦ inr (inr n) ] ];
-    })
+    let r = take_out qs x y h in (
+      q ∷ r.0,
+      record {
+        short = let e : length qs ≡ length r.0 + 1 = r.1.short in omega arith;
+        kept = λ u v k. elim k [ inl e ↦ inr (inl e) | inr m ↦ elim (r.1.kept u v m) [ inl e ↦ inl e | inr n ↦ inr (inr n) ] ];
+      },
+    )
 
 -- points that stand once each and all stand in the other list are no more than the other list has
 pub no_more : (ps qs : List Spot) → AreDistinct ps → ((x y : ℤ) → IsListed ps x y → IsListed qs x y) → length ps ≤ length qs
@@ -77,10 +78,10 @@ count_join P Q R m n a b f h = record {
     );
   };
   count =
-    let e : length a.spots ≡ m = a.count in
-    let g : length b.spots ≡ n = b.count in
-    let k : length (a.spots ++ b.spots) ≡ length a.spots + length b.spots = length-append a.spots b.spots in
-    omega arith;
+      let e : length a.spots ≡ m = a.count in
+      let g : length b.spots ≡ n = b.count in
+      let k : length (a.spots ++ b.spots) ≡ length a.spots + length b.spots = length-append a.spots b.spots in
+      omega arith;
 }
 
 pub count_none : (P : ℤ → ℤ → Type 0) → ((x y : ℤ) → P x y → ⊥) → IsCount P 0

@@ -1,6 +1,6 @@
 -- How many grid points a tight octagon has: those of its box without four triangles.
 use Rattle.std.proofs.Common.{◌≡◌, refl, sym, subst, ap, ◌∙◌, ◌⊎◌, inl, inr, ℕ, zero, suc, ◌+◌, ◌*◌, ◌-◌, ◌≤◌, ◌<◌, List, [], ◌∷◌, ◌++◌, length, length-append, arith}
-use Rattle.std.specs.Prelude.{ℤ, pos, negsuc, ◌+ℤ◌, ◌-ℤ◌, ◌≤ℤ◌, ◌<ℤ◌, ◌↔◌}
+use Rattle.std.specs.Prelude.{ℤ, pos, negsuc, ◌+ℤ◌, ◌-ℤ◌, ◌≤ℤ◌, ◌<ℤ◌}
 use Rattle.std.proofs.lemmas.Int.{ints, by_lt_z}
 use Rattle.std.proofs.lemmas.Bool.{cases_lt}
 use Rattle.plane.specs.Plane.{Bounds, Within, IsTight}
@@ -68,8 +68,8 @@ area_in left wide top k zero u v h = absurd (omega (arith, h.first, h.last))
 area_in left wide top k (suc n) u v h = (listed_either (line (left k) (top +ℤ pos k) (wide k)) (area left wide top (suc k) n) u v).1 (elim (cases_lt k h.row) [
   | inl l ↦ inr (area_in left wide top (suc k) n u v (record { row = h.row; first = omega arith; last = omega (arith, h.last); on = h.on }))
   | inr l ↦
-    let e : h.row ≡ k = omega (arith, h.first) in
-    inl (line_on (left k) (top +ℤ pos k) (wide k) u v (subst (λ (i : ℕ). IsOnLine (left i) (top +ℤ pos i) (wide i) u v) e h.on))
+      let e : h.row ≡ k = omega (arith, h.first) in
+      inl (line_on (left k) (top +ℤ pos k) (wide k) u v (subst (λ (i : ℕ). IsOnLine (left i) (top +ℤ pos i) (wide i) u v) e h.on))
 ])
 
 area_distinct : (left : ℕ → ℤ) (wide : ℕ → ℕ) (top : ℤ) (k n : ℕ) → AreDistinct (area left wide top k n)

@@ -24,4 +24,3 @@ on_rows (r ∷ rs) ts x y =
       λ h. elim h [ inl w ↦ inl (inl w) | inr k ↦ elim (i.0 k) [ inl m ↦ inl (inr m) | inr m ↦ inr m ] ],
       λ h. elim h [ inl k ↦ elim k [ inl w ↦ inl w | inr m ↦ inr (i.1 (inl m)) ] | inr m ↦ inr (i.1 (inr m)) ],
     )
-

@@ -1,16 +1,16 @@
 -- Rows have one list of greedy bands.
-use Rattle.std.proofs.Common.{◌≡◌, refl, sym, ap, ◌∙◌, subst, ℕ, zero, suc, ◌+◌, ◌≤◌, ◌<◌, ◌⊎◌, inl, inr, List, [], ◌∷◌, ◌++◌, map, arith}
+use Rattle.std.proofs.Common.{◌≡◌, refl, sym, ap, ◌∙◌, subst, ℕ, zero, suc, ◌+◌, ◌≤◌, ◌<◌, inl, inr, List, [], ◌∷◌, ◌++◌, map, arith}
 use Rattle.std.specs.Prelude.{ℤ, pos, ◌+ℤ◌}
 use Rattle.std.proofs.lemmas.Int.{ints}
 use Rattle.std.proofs.lemmas.Bool.{cases_lt}
 use Rattle.grid_sets.specs.Rows.{Run, Row}
-use Rattle.grid_sets.specs.Bands.{moved, reach, at, Band, row_of, rows_from, rows_of, IsMovedAlike, AreMovedAlike, AreStill, IsJoining, Ends, AreBandsOf}
+use Rattle.grid_sets.specs.Bands.{moved, reach, at, Band, row_of, rows_from, rows_of, AreMovedAlike, AreStill, IsJoining, Ends, AreBandsOf}
 use Rattle.grid_sets.specs.Laws.{BandsLaw}
 use Rattle.grid_sets.specs.declared.Move.{Move}
 use Rattle.grid_sets.specs.declared.Move.TheVariants.{Left, Still, Right}
 use Rattle.grid_sets.specs.declared.End.{End}
 use Rattle.grid_sets.specs.declared.Slant.{Slant}
-use Rattle.grid_sets.proofs.BandRows.{slants_on, slants_told, alike_back, alike_through}
+use Rattle.grid_sets.proofs.BandRows.{slants_told, alike_through}
 
 -- ---- two lists of rows that begin with the rows of a band each
 row_at : (b c : Band) (k n m i : ℕ) (rs ts : List Row) → rows_from b k n ++ rs ≡ rows_from c k m ++ ts → i < n → i < m → row_of b (k + i) ≡ row_of c (k + i)
@@ -101,7 +101,7 @@ joins b c h =
       last = later_zero k c.runs ∙ sym (row_runs b c k (h k (omega arith)));
       new = later_one k c.runs;
       alike = λ one. alike_through (map (later k) c.runs) c.runs b.runs (later_alike k c.runs)
-        (slants_told c.runs b.runs (sym (row_runs b c 0 (h 0 (omega arith)))) (sym (row_runs b c 1 (h 1 one))));
+          (slants_told c.runs b.runs (sym (row_runs b c 0 (h 0 (omega arith)))) (sym (row_runs b c 1 (h 1 one))));
     }
 
 taken : (b c : Band) (rs ts : List Row) → Ends b rs → rows_of b ++ rs ≡ rows_of c ++ ts → b.more < c.more → ⊥

@@ -1,8 +1,8 @@
 -- A set has one list of runs at each y, and one list of rows.
-use Rattle.std.proofs.Common.{◌≡◌, refl, sym, ◌⊎◌, inl, inr, List, [], ◌∷◌, arith}
+use Rattle.std.proofs.Common.{◌≡◌, refl, sym, inl, inr, List, [], ◌∷◌, arith}
 use Rattle.std.specs.Prelude.{ℤ, pos, ◌+ℤ◌, ◌≤ℤ◌}
 use Rattle.std.proofs.lemmas.Int.{ints, by_lt_z}
-use Rattle.grid_sets.specs.Rows.{Run, IsOnRun, OnRuns, Ascending, Row, OnRows, IsFilled, Descending, AreRows}
+use Rattle.grid_sets.specs.Rows.{Run, IsOnRun, OnRuns, Ascending, Row, OnRows, IsFilled, Descending}
 use Rattle.grid_sets.specs.Laws.{RowsLaw, RunsLaw}
 
 pub on_from : (low : ℤ) (rs : List Run) (x : ℤ) → Ascending low rs → OnRuns rs x → low ≤ℤ x

@@ -1,7 +1,7 @@
 -- The laws of finite sets of grid points.
 use Rattle.std.specs.Prelude.{◌≡◌, ◌↔◌, ℕ, ◌≤◌, List, length, ℤ}
 use Rattle.std.specs.List.{All}
-use Rattle.plane.specs.Plane.{Bounds, PlanePoint, IsTight}
+use Rattle.plane.specs.Plane.{PlanePoint, IsTight}
 use Rattle.grid_sets.specs.Rows.{Run, OnRuns, Ascending, Row, OnRows, AreRows}
 use Rattle.grid_sets.specs.Bands.{Band, AreBandsOf}
 use Rattle.grid_sets.specs.Cells.{cells_of, OnBrushed, IsBrushedByRows}

@@ -1,8 +1,8 @@
 -- The closed form of a count, and its bounds.
-use Rattle.std.proofs.Common.{◌≡◌, refl, sym, ◌∙◌, subst, ◌⊎◌, inl, inr, ℕ, zero, suc, ◌+◌, ◌*◌, ◌-◌, ◌/◌, ◌%◌, ◌≤◌, ◌<◌, ◌^◌, List, [], ◌∷◌, ◌++◌, length, get_or, take, lit≤, arith}
-use Rattle.std.specs.Prelude.{ℤ, pos, neg_ℤ, ◌+ℤ◌, ◌-ℤ◌, ◌≤ℤ◌, ◌↔◌}
+use Rattle.std.proofs.Common.{◌≡◌, refl, inl, inr, ℕ, ◌+◌, ◌*◌, ◌-◌, ◌/◌, ◌≤◌, ◌<◌, ◌^◌, List, [], ◌∷◌, ◌++◌, length, get_or, take, arith}
+use Rattle.std.specs.Prelude.{ℤ, pos, neg_ℤ, ◌+ℤ◌, ◌-ℤ◌}
 use Rattle.std.proofs.lemmas.Int.{ints}
-use Rattle.plane.specs.Plane.{Bounds, Within, IsTight, IsOct}
+use Rattle.plane.specs.Plane.{Bounds, Within, IsOct}
 use Rattle.grid_sets.specs.Points.{HasPoint, AreApart, IsCount, triangle}
 use Rattle.grid_sets.proofs.Counting.{count_le, count_join, count_none}
 use Rattle.grid_sets.proofs.OctCount.{IsShape, triangle_double, triangles_fit, octagon_rest}

@@ -1,6 +1,6 @@
 -- Grid points of an octagon, as points of the plane and by tests.
-use Rattle.std.proofs.Common.{◌≡◌, ◌⊎◌, inl, inr, List, arith}
-use Rattle.std.specs.Prelude.{ℤ, pos, ◌+ℤ◌, ◌-ℤ◌, ◌≤ℤ◌, ◌<ℤ◌, ◌↔◌}
+use Rattle.std.proofs.Common.{◌⊎◌, inl, inr, arith}
+use Rattle.std.specs.Prelude.{ℤ, ◌+ℤ◌, ◌-ℤ◌, ◌≤ℤ◌}
 use Rattle.std.proofs.lemmas.Int.{ints, by_lt_z}
 use Rattle.plane.specs.Plane.{Bounds, Within, In, IsOct, grid_point}
 use Rattle.grid_num.specs.declared.Point.{Point}

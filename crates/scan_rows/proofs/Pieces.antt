@@ -1,9 +1,9 @@
 -- An octagon cut by the sides of another: the pieces, and what is left.
-use Rattle.std.proofs.Common.{rules, ◌≡◌, refl, sym, subst, ◌⊎◌, inl, inr, ◌^◌, List, [], ◌∷◌, ◌++◌, Bool, true, false, arith}
-use Rattle.std.specs.Prelude.{ℤ, pos, neg_ℤ, ◌+ℤ◌, ◌-ℤ◌, ◌≤ℤ◌, ◌<ℤ◌, ◌↔◌, IsTrue, Option, None, Some, IsNone, IfSome}
+use Rattle.std.proofs.Common.{rules, ◌≡◌, sym, subst, ◌⊎◌, inl, inr, List, [], ◌∷◌, ◌++◌, Bool, arith}
+use Rattle.std.specs.Prelude.{ℤ, ◌+ℤ◌, ◌-ℤ◌, ◌≤ℤ◌, ◌<ℤ◌, ◌↔◌, IsTrue, Option, None, Some, IsNone, IfSome}
 use Rattle.std.proofs.lemmas.Int.{ints, by_lt_z}
 use Rattle.plane.specs.Plane.{Bounds, Within, IsOct}
-use Rattle.plane.specs.Narrow.{IsNearZero, IsOrdered, Holds}
+use Rattle.plane.specs.Narrow.{IsOrdered, Holds}
 use Rattle.octagon.specs.Bounded.{IsInRange}
 use Rattle.grid_sets.specs.Points.{HasPoint, AreApart}
 use Rattle.scan_rows.specs.Sets.{IsRestAdded}

@@ -116,14 +116,38 @@ fn beyond(b: &Eight, side: Side, limit: i64) -> Eight
     let under = limit - 1;
     let over = limit + 1;
     match side {
-        Side::Top => Eight { y1: lesser(b.y1, under), ..*b },
-        Side::Bottom => Eight { y0: greater(b.y0, over), ..*b },
-        Side::Left => Eight { x1: lesser(b.x1, under), ..*b },
-        Side::Right => Eight { x0: greater(b.x0, over), ..*b },
-        Side::TopLeft => Eight { s1: lesser(b.s1, under), ..*b },
-        Side::BottomRight => Eight { s0: greater(b.s0, over), ..*b },
-        Side::BottomLeft => Eight { d1: lesser(b.d1, under), ..*b },
-        Side::TopRight => Eight { d0: greater(b.d0, over), ..*b },
+        Side::Top => Eight {
+            y1: lesser(b.y1, under),
+            ..*b
+        },
+        Side::Bottom => Eight {
+            y0: greater(b.y0, over),
+            ..*b
+        },
+        Side::Left => Eight {
+            x1: lesser(b.x1, under),
+            ..*b
+        },
+        Side::Right => Eight {
+            x0: greater(b.x0, over),
+            ..*b
+        },
+        Side::TopLeft => Eight {
+            s1: lesser(b.s1, under),
+            ..*b
+        },
+        Side::BottomRight => Eight {
+            s0: greater(b.s0, over),
+            ..*b
+        },
+        Side::BottomLeft => Eight {
+            d1: lesser(b.d1, under),
+            ..*b
+        },
+        Side::TopRight => Eight {
+            d0: greater(b.d0, over),
+            ..*b
+        },
     }
 }
 
@@ -134,14 +158,38 @@ fn inside(b: &Eight, side: Side, limit: i64) -> Eight
     ensures bounded { IsBounded (bounds result) }
 {
     match side {
-        Side::Top => Eight { y0: greater(b.y0, limit), ..*b },
-        Side::Bottom => Eight { y1: lesser(b.y1, limit), ..*b },
-        Side::Left => Eight { x0: greater(b.x0, limit), ..*b },
-        Side::Right => Eight { x1: lesser(b.x1, limit), ..*b },
-        Side::TopLeft => Eight { s0: greater(b.s0, limit), ..*b },
-        Side::BottomRight => Eight { s1: lesser(b.s1, limit), ..*b },
-        Side::BottomLeft => Eight { d0: greater(b.d0, limit), ..*b },
-        Side::TopRight => Eight { d1: lesser(b.d1, limit), ..*b },
+        Side::Top => Eight {
+            y0: greater(b.y0, limit),
+            ..*b
+        },
+        Side::Bottom => Eight {
+            y1: lesser(b.y1, limit),
+            ..*b
+        },
+        Side::Left => Eight {
+            x0: greater(b.x0, limit),
+            ..*b
+        },
+        Side::Right => Eight {
+            x1: lesser(b.x1, limit),
+            ..*b
+        },
+        Side::TopLeft => Eight {
+            s0: greater(b.s0, limit),
+            ..*b
+        },
+        Side::BottomRight => Eight {
+            s1: lesser(b.s1, limit),
+            ..*b
+        },
+        Side::BottomLeft => Eight {
+            d0: greater(b.d0, limit),
+            ..*b
+        },
+        Side::TopRight => Eight {
+            d1: lesser(b.d1, limit),
+            ..*b
+        },
     }
 }
 

@@ -11,6 +11,8 @@ ghost use Rattle.scan_rows.specs.Sets.{IsInSome};
 mod apart;
 mod count;
 mod cut;
+#[cfg(test)]
+mod tests;
 
 use crate::apart::{joined, without, without_all};
 use crate::count::{count_of, has_point};
@@ -29,9 +31,7 @@ pub struct Rows {
 
 impl Model for Rows {
     ghost use Rattle.std.specs.Prelude.{List};
-
     ghost use Rattle.plane.specs.Plane.{Bounds};
-
     ghost use Rattle.grid_sets.specs.Points.{AreApart};
 
     ghost Value = { List Bounds };

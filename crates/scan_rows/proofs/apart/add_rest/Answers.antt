@@ -1,5 +1,4 @@
 use Rattle.std.specs.Prelude.{IsTrue}
-use Rattle.plane.specs.Plane.{IsMeeting}
 use Rattle.scan_rows.proofs.Steps.{kept_whole}
 use Rattle.scan_rows.proofs.apart.add_rest.Goals as goal
 

@@ -1,6 +1,6 @@
 use Rattle.std.proofs.Common.{rules, ◌+◌, ◌<◌, ◌^◌}
 use Rattle.std.proofs.Common.{take}
-use Rattle.scan_rows.proofs.Closed.{IsCounted, counted_none, counted_more, counted_fits}
+use Rattle.scan_rows.proofs.Closed.{counted_none, counted_more, counted_fits}
 use Rattle.scan_rows.proofs.count.count_of.Goals as goal
 
 pub overflow_add-total : goal.overflow_add-total
