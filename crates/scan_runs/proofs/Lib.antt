@@ -1,0 +1,7 @@
+pub mod Small
+pub mod Lines
+pub mod EndLaws
+pub mod Merging
+pub mod PartLaws
+pub mod Places
+pub mod StripLaws
