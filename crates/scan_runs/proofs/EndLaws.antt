@@ -1,10 +1,10 @@
 -- Straight ends of octagons as the code makes them.
-use Rattle.std.proofs.Common.{◌≡◌, refl, sym, subst, ℕ, ◌≤◌, ◌^◌, ◌⊎◌, w64, to_z, of_z, arith}
-use Rattle.std.specs.Prelude.{ℤ, pos, neg_ℤ, ◌+ℤ◌, ◌-ℤ◌, ◌≤ℤ◌, ◌<ℤ◌}
+use Rattle.std.proofs.Common.{◌≡◌, sym, subst, ℕ, ◌≤◌, ◌^◌, ◌⊎◌, w64, to_z, of_z, arith}
+use Rattle.std.specs.Prelude.{ℤ, pos, ◌+ℤ◌, ◌-ℤ◌, ◌≤ℤ◌, ◌<ℤ◌}
 use Rattle.std.proofs.lemmas.Int.{ints}
 use Rattle.plane.specs.Narrow.{IsNearZero}
 use Rattle.grid_sets.specs.Bands.{moved, reach}
-use Rattle.scan_runs.specs.Lines.{AreApart, IsLeftEnd, IsRightEnd}
+use Rattle.scan_runs.specs.Lines.{AreApart}
 use Rattle.grid_sets.specs.declared.Move.{Move}
 use Rattle.grid_sets.specs.declared.Move.TheVariants.{Left, Still, Right}
 use Rattle.grid_sets.specs.declared.End.{End}

@@ -5,3 +5,4 @@ pub mod Merging
 pub mod PartLaws
 pub mod Places
 pub mod StripLaws
+pub mod SpanLaws

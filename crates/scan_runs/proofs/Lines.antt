@@ -1,16 +1,14 @@
 -- What holds of straight ends on the first and the last row holds on each row between.
-use Rattle.std.proofs.Common.{◌≡◌, ℕ, ◌≤◌, refl, inl, inr, arith}
+use Rattle.std.proofs.Common.{ℕ, ◌≤◌, refl, inl, inr, arith}
 use Rattle.std.specs.Prelude.{ℤ, pos, ◌+ℤ◌, ◌-ℤ◌, ◌≤ℤ◌, ◌<ℤ◌}
 use Rattle.std.proofs.lemmas.Int.{ints}
 use Rattle.plane.specs.Plane.{Bounds, Within, IsTight}
 use Rattle.plane.proofs.Sum.{between3}
-use Rattle.grid_sets.specs.Rows.{IsOnRun}
-use Rattle.grid_sets.specs.Bands.{moved, reach, at}
+use Rattle.grid_sets.specs.Bands.{moved, reach}
 use Rattle.scan_runs.specs.Lines.{AreApart, IsLesser, IsGreater, IsLeftEnd, IsRightEnd, IsAlong, IsAbsent}
 use Rattle.grid_sets.specs.declared.Move.{Move}
 use Rattle.grid_sets.specs.declared.Move.TheVariants.{Left, Still, Right}
 use Rattle.grid_sets.specs.declared.End.{End}
-use Rattle.grid_sets.specs.declared.Slant.{Slant}
 
 between : (m p : Move) (a c g : ℤ) (n k : ℕ) → k ≤ n → (moved m 0 a +ℤ g) ≤ℤ moved p 0 c → (moved m n a +ℤ g) ≤ℤ moved p n c → (moved m k a +ℤ g) ≤ℤ moved p k c
 between Left Left a c g n k l h i = omega (arith, ints)

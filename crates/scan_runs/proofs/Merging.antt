@@ -1,16 +1,15 @@
 -- Inserting a run among runs, and rows below rows.
 use Rattle.std.proofs.Common.{◌≡◌, refl, sym, ap, subst, ◌⊎◌, inl, inr, ℕ, zero, suc, ◌+◌, ◌≤◌, ◌<◌, List, [], ◌∷◌, ◌++◌, map, arith}
-use Rattle.std.specs.Prelude.{ℤ, pos, negsuc, ◌+ℤ◌, ◌-ℤ◌, ◌≤ℤ◌, ◌<ℤ◌, ◌↔◌}
+use Rattle.std.specs.Prelude.{ℤ, pos, negsuc, ◌+ℤ◌, ◌-ℤ◌, ◌≤ℤ◌, ◌↔◌}
 use Rattle.std.proofs.lemmas.Int.{ints, by_lt_z}
-use Rattle.std.proofs.lemmas.Bool.{cases_lt}
 use Rattle.grid_sets.specs.Rows.{Run, IsOnRun, OnRuns, Ascending, Row, OnRows, IsFilled, Descending}
-use Rattle.grid_sets.specs.Bands.{at, reach, Band, row_of, rows_from, rows_of}
+use Rattle.grid_sets.specs.Bands.{at, reach, Band, rows_from, rows_of}
 use Rattle.grid_sets.proofs.Unique.{on_from}
 use Rattle.grid_sets.proofs.OnBands.{on_band, band_on, on_rows}
 use Rattle.plane.specs.Plane.{Bounds, Within}
 use Rattle.grid_sets.specs.Points.{HasPoint}
 use Rattle.scan_runs.specs.Lines.{AreApart, IsLesser, IsGreater}
-use Rattle.scan_runs.specs.Merge.{AreSorted, AreWith, IsInserted, IsPutIn, IsJoint, AreRowsBetween, AreStraight}
+use Rattle.scan_runs.specs.Merge.{AreSorted, IsInserted, IsPutIn, IsJoint, AreRowsBetween, AreStraight}
 use Rattle.grid_sets.specs.declared.End.{End}
 use Rattle.grid_sets.specs.declared.Slant.{Slant}
 
@@ -35,10 +34,14 @@ insert_later rs new t r g f a h =
     record {
       sorted = record {
         low = a.low;
-        ascending = (a.ascending.0, a.ascending.1, raise w.sorted.low (t.to +ℤ pos 2) new w.sorted.ascending (λ x k. elim ((w.same x).0 k) [
-          | inl m ↦ on_from (t.to +ℤ pos 2) rs x a.ascending.2 m
-          | inr v ↦ omega (arith, ints, v.low)
-        ]));
+        ascending = (
+          a.ascending.0,
+          a.ascending.1,
+          raise w.sorted.low (t.to +ℤ pos 2) new w.sorted.ascending (λ x k. elim ((w.same x).0 k) [
+            | inl m ↦ on_from (t.to +ℤ pos 2) rs x a.ascending.2 m
+            | inr v ↦ omega (arith, ints, v.low)
+          ]),
+        );
       };
       same = λ x. (
         λ k. elim k [ inl v ↦ inl (inl v) | inr m ↦ elim ((w.same x).0 m) [ inl o ↦ inl (inr o) | inr v ↦ inr v ] ],
@@ -81,8 +84,8 @@ joint_there a b c d f t x cb ad fx xt ef et =
     by_lt_z {P = ((a ≤ℤ x) × (x ≤ℤ b)) ⊎ ((c ≤ℤ x) × (x ≤ℤ d))} x a
     (λ l. inr (omega (arith, ints), omega (arith, ints)))
     (λ l. by_lt_z {P = ((a ≤ℤ x) × (x ≤ℤ b)) ⊎ ((c ≤ℤ x) × (x ≤ℤ d))} b x
-      (λ m. inr (omega (arith, ints), omega (arith, ints)))
-      (λ m. inl (l, m)))
+    (λ m. inr (omega (arith, ints), omega (arith, ints)))
+    (λ m. inl (l, m)))
 
 -- ---- rows below rows
 rows_lower : (l m : ℤ) (rs : List Row) → l ≤ℤ m → Descending m rs → Descending l rs
@@ -108,8 +111,8 @@ rows_put_together P top mid bottom rs ts h i a b = record {
     | inr m ↦ let u = b.there x y m in (omega (arith, ints), u.1, u.2)
   ];
   back = λ x y k l p. (on_rows rs ts x y).1 (by_lt_z {P = OnRows rs x y ⊎ OnRows ts x y} mid y
-    (λ m. inr (b.back x y (omega (arith, ints)) l p))
-    (λ m. inl (a.back x y k m p)));
+      (λ m. inr (b.back x y (omega (arith, ints)) l p))
+      (λ m. inl (a.back x y k m p)));
 }
 
 -- a stretch whose runs are straight is a band
@@ -119,9 +122,11 @@ record IsBandRow (P : ℤ → ℤ → Type 0) (b : Band) (k : ℕ) : Type 0 wher
 
 band_rows : (P : ℤ → ℤ → Type 0) (b : Band) (k n : ℕ) → ((i : ℕ) → i < k + n → IsBandRow P b i) → Descending (b.top +ℤ pos k) (rows_from b k n)
 band_rows P b k zero f = tt
-band_rows P b k (suc n) f =
-    (omega (arith, ints), (f k (omega arith)).sorted,
-    rows_lower (b.top +ℤ pos k +ℤ pos 1) (b.top +ℤ pos (suc k)) (rows_from b (suc k) n) (omega (arith, ints)) (band_rows P b (suc k) n (λ i l. f i (omega arith))))
+band_rows P b k (suc n) f = (
+  omega (arith, ints),
+  (f k (omega arith)).sorted,
+  rows_lower (b.top +ℤ pos k +ℤ pos 1) (b.top +ℤ pos (suc k)) (rows_from b (suc k) n) (omega (arith, ints)) (band_rows P b (suc k) n (λ i l. f i (omega arith))),
+)
 
 -- ---- two slants that touch on each row
 joint_back : (a b c d f t x : ℤ) → f ≤ℤ a → f ≤ℤ c → b ≤ℤ t → d ≤ℤ t → ((a ≤ℤ x) × (x ≤ℤ b)) ⊎ ((c ≤ℤ x) × (x ≤ℤ d)) → (f ≤ℤ x) × (x ≤ℤ t)
@@ -138,11 +143,11 @@ joint_law n a b f t l g u v = record {
   filled = λ k i h j. through k (l.first.each k i) h (g.first.each k i);
   same = λ k x i. (
     λ h. parts k x (joint_there (reach k a.from) (reach k a.to) (reach k b.from) (reach k b.to) (reach k f) (reach k t) x
-      (one_off k (reach k b.from) (reach k a.to) (u.each k i)) (one_off k (reach k a.from) (reach k b.to) (v.each k i)) h.low h.high
-      (either k a.from b.from f l.is) (either k a.to b.to t g.is)),
+        (one_off k (reach k b.from) (reach k a.to) (u.each k i)) (one_off k (reach k a.from) (reach k b.to) (v.each k i)) h.low h.high
+        (either k a.from b.from f l.is) (either k a.to b.to t g.is)),
     λ h. whole k x (joint_back (reach k a.from) (reach k a.to) (reach k b.from) (reach k b.to) (reach k f) (reach k t) x
-      (none_off k (reach k f) (reach k a.from) (l.first.each k i)) (none_off k (reach k f) (reach k b.from) (l.second.each k i))
-      (none_off k (reach k a.to) (reach k t) (g.first.each k i)) (none_off k (reach k b.to) (reach k t) (g.second.each k i)) (apart_of k x h)),
+        (none_off k (reach k f) (reach k a.from) (l.first.each k i)) (none_off k (reach k f) (reach k b.from) (l.second.each k i))
+        (none_off k (reach k a.to) (reach k t) (g.first.each k i)) (none_off k (reach k b.to) (reach k t) (g.second.each k i)) (apart_of k x h)),
   );
 }
   where

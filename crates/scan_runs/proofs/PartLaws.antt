@@ -1,11 +1,11 @@
 -- What octagons are on a stretch, from their ends.
-use Rattle.std.proofs.Common.{◌≡◌, refl, sym, subst, ℕ, ◌≤◌, ◌^◌, ◌⊎◌, inl, inr, w64, to_z, of_z, Bool, true, false, List, [], ◌∷◌, ◌++◌, ◌∙◌, ◌-◌, ◌+◌, ◌<◌, take, length, get_or, Result, Ok, Err, IfOk, arith}
-use Rattle.std.specs.Prelude.{Option, None, Some, IfSome, ℤ, pos, negsuc, neg_ℤ, ◌+ℤ◌, ◌-ℤ◌, ◌≤ℤ◌, ◌<ℤ◌}
+use Rattle.std.proofs.Common.{◌≡◌, sym, subst, ℕ, ◌≤◌, ◌^◌, ◌⊎◌, inl, inr, w64, to_z, of_z, List, [], ◌∷◌, ◌++◌, ◌+◌, ◌<◌, take, length, get_or, Result, Ok, Err, IfOk, arith}
+use Rattle.std.specs.Prelude.{Option, None, Some, IfSome, ℤ, pos, negsuc, ◌+ℤ◌, ◌≤ℤ◌}
 use Rattle.std.proofs.lemmas.Int.{ints}
 use Rattle.plane.specs.Plane.{Bounds, IsOct}
 use Rattle.plane.specs.Narrow.{IsNearZero}
 use Rattle.scan_runs.specs.Lines.{AreApart, IsLesser, IsGreater, IsAlong, IsAbsent}
-use Rattle.scan_runs.specs.Merge.{IsPutIn, IsJoint, AreStraight}
+use Rattle.scan_runs.specs.Merge.{IsPutIn, AreStraight}
 use Rattle.std.proofs.lemmas.List.{take_more, take_all}
 use Rattle.grid_sets.specs.Points.{HasPoint}
 use Rattle.grid_sets.specs.declared.End.{End}
@@ -13,7 +13,7 @@ use Rattle.grid_sets.specs.declared.Slant.{Slant}
 use Rattle.scan_runs.proofs.Lines.{both-IsAlong}
 use Rattle.scan_runs.proofs.Merging.{joint_law, has_end}
 use Rattle.scan_runs.specs.Ends.{IsLeftFor, IsRightFor, IsSmallEnd}
-use Rattle.scan_runs.specs.Parts.{IsSmallSlant, AreSmall, IsSmallAlong, IsSmallJoint, IsGoodInsertion, IsSoFar, IsWithOct}
+use Rattle.scan_runs.specs.Parts.{IsSmallSlant, IsSmallAlong, IsSmallJoint, IsGoodInsertion, IsSoFar, IsWithOct}
 
 either_small : (e f m : End) → IsSmallEnd e → IsSmallEnd f → ((m ≡ e) ⊎ (m ≡ f)) → IsSmallEnd m
 either_small e f m h k (inl p) = let P : End → Type 0 = λ v. IsSmallEnd v in subst P (sym p) h
@@ -64,10 +64,10 @@ pub straight_along : (o : Bounds) (xs : List Bounds) (top : ℤ) (n : ℕ) (s : 
 straight_along o xs top n s ss new a b p = record {
   sorted = λ k l. (p.each k l (a.sorted k l) (b.filled k l)).sorted;
   same = λ k x l.
-    let w = p.each k l (a.sorted k l) (b.filled k l) in (
-      λ h. (has_end xs o x (top +ℤ pos k)).1 (elim ((w.same x).0 h) [ inl m ↦ inl ((a.same k x l).0 m) | inr r ↦ inr (b.there k x l r) ]),
-      λ h. (w.same x).1 (elim ((has_end xs o x (top +ℤ pos k)).0 h) [ inl m ↦ inl ((a.same k x l).1 m) | inr v ↦ inr (b.back k x l v) ]),
-    );
+      let w = p.each k l (a.sorted k l) (b.filled k l) in (
+        λ h. (has_end xs o x (top +ℤ pos k)).1 (elim ((w.same x).0 h) [ inl m ↦ inl ((a.same k x l).0 m) | inr r ↦ inr (b.there k x l r) ]),
+        λ h. (w.same x).1 (elim ((has_end xs o x (top +ℤ pos k)).0 h) [ inl m ↦ inl ((a.same k x l).1 m) | inr v ↦ inr (b.back k x l v) ]),
+      );
 }
 
 -- ---- the loop over the octagons

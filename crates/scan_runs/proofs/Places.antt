@@ -1,12 +1,12 @@
 -- A run put among others from left to right, one run further.
-use Rattle.std.proofs.Common.{◌≡◌, refl, sym, ap, ◌∙◌, subst, ℕ, zero, suc, ◌+◌, ◌<◌, ◌≤◌, List, [], ◌∷◌, ◌++◌, append_assoc, Result, Ok, Err, IfOk, length, get_or, drop, drop-cons, add-one, arith}
-use Rattle.std.specs.Prelude.{ℤ, pos, Option, None, Some, IsNone, IfSome}
+use Rattle.std.proofs.Common.{◌≡◌, refl, sym, ap, subst, ℕ, zero, suc, ◌+◌, ◌<◌, ◌≤◌, List, [], ◌∷◌, ◌++◌, append_assoc, Result, Ok, Err, IfOk, length, get_or, drop, drop-cons, add-one, arith}
+use Rattle.std.specs.Prelude.{pos, Option, None, Some, IsNone, IfSome}
 use Rattle.std.proofs.lemmas.List.{drop_all}
 use Rattle.grid_sets.specs.declared.Slant.{Slant}
 use Rattle.scan_runs.specs.Lines.{AreApart}
-use Rattle.scan_runs.specs.Merge.{IsJoint, IsPutIn}
+use Rattle.scan_runs.specs.Merge.{IsPutIn}
 use Rattle.scan_runs.specs.Parts.{IsSmallSlant, AreSmall, IsGoodInsertion, IsSmallJoint}
-use Rattle.scan_runs.specs.Places.{IsSmallPlace, IsPossible, IsAhead, IsLifted, IsStep, IsLast}
+use Rattle.scan_runs.specs.Places.{IsSmallPlace, IsPossible, IsAhead, IsStep, IsLast}
 use Rattle.scan_runs.specs.declared.merge.Place.{Place}
 use Rattle.scan_runs.specs.declared.merge.Place.TheVariants.{Waiting, Placed, Crossing}
 use Rattle.scan_runs.proofs.Merging.{put_alone, put_later, put_first, put_joint}

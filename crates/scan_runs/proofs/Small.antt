@@ -1,9 +1,8 @@
 -- The bounds of an octagon are within reach.
-use Rattle.std.proofs.Common.{◌^◌, arith}
-use Rattle.std.specs.Prelude.{ℤ, pos, neg_ℤ, ◌+ℤ◌, ◌-ℤ◌, ◌≤ℤ◌}
+use Rattle.std.proofs.Common.{arith}
 use Rattle.std.proofs.lemmas.Int.{ints}
 use Rattle.plane.specs.Plane.{Bounds, IsOct}
-use Rattle.plane.specs.Narrow.{IsNearZero, IsSmall}
+use Rattle.plane.specs.Narrow.{IsSmall}
 
 pub IsOct-IsSmall : (o : Bounds) → IsOct o → IsSmall o
 IsOct-IsSmall o h =

@@ -1,11 +1,11 @@
 -- Strips below strips.
-use Rattle.std.proofs.Common.{◌≡◌, refl, sym, ap, ◌∙◌, subst, ◌⊎◌, inl, inr, length, get_or, take, ℕ, suc, ◌<◌, ◌+◌, ◌≤◌, List, [], ◌∷◌, ◌++◌, append_assoc, Bool, true, false, Result, Ok, Err, IfOk, arith}
-use Rattle.std.specs.Prelude.{ℤ, pos, ◌+ℤ◌, ◌-ℤ◌, ◌≤ℤ◌, ◌<ℤ◌, ◌↔◌}
+use Rattle.std.proofs.Common.{◌≡◌, refl, sym, ap, ◌∙◌, subst, ◌⊎◌, inl, inr, length, get_or, take, ℕ, ◌<◌, ◌+◌, ◌≤◌, List, [], ◌∷◌, ◌++◌, append_assoc, Result, Ok, Err, IfOk, arith}
+use Rattle.std.specs.Prelude.{ℤ, pos, ◌+ℤ◌, ◌≤ℤ◌, ◌<ℤ◌, ◌↔◌}
 use Rattle.std.proofs.lemmas.List.{take_more, take_all}
 use Rattle.std.proofs.lemmas.Int.{ints}
-use Rattle.plane.specs.Plane.{Bounds, Within}
+use Rattle.plane.specs.Plane.{Bounds}
 use Rattle.grid_sets.specs.Rows.{Row}
-use Rattle.grid_sets.specs.Bands.{Band, rows_of}
+use Rattle.grid_sets.specs.Bands.{rows_of}
 use Rattle.scan_runs.specs.Merge.{AreRowsBetween, AreStraight}
 use Rattle.grid_sets.specs.declared.Slant.{Slant}
 use Rattle.scan_runs.proofs.Merging.{no_rows, band_between, rows_put_together, has_end}
@@ -13,7 +13,7 @@ use Rattle.grid_sets.proofs.BandRows.{append_none}
 use Rattle.grid_sets.specs.Points.{HasPoint}
 use Rattle.scan_runs.specs.declared.strip.Strip.{Strip}
 use Rattle.scan_runs.specs.Strips.{band_of, all_rows, IsSmallStrip, AreSmallStrips, AreStrips}
-use Rattle.scan_runs.specs.Parts.{AreSmall, IsSoFar, AreOpen, IsKeptOpen}
+use Rattle.scan_runs.specs.Parts.{IsSoFar, AreOpen, IsKeptOpen}
 
 all_more : (ss ts : List Strip) → all_rows (ss ++ ts) ≡ all_rows ss ++ all_rows ts
 all_more [] ts = refl

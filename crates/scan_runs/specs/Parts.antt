@@ -1,10 +1,9 @@
 -- What octagons are on a stretch of rows, and how two runs lie to each other.
-use Rattle.std.specs.Prelude.{◌≡◌, ◌⊎◌, ◌↔◌, ℕ, ◌≤◌, List, [], ◌∷◌, ◌++◌, ℤ, pos, ◌+ℤ◌, ◌≤ℤ◌}
+use Rattle.std.specs.Prelude.{◌⊎◌, ◌↔◌, ℕ, ◌≤◌, List, [], ◌∷◌, ◌++◌, ℤ, pos, ◌+ℤ◌, ◌≤ℤ◌}
 use Rattle.plane.specs.Plane.{Bounds, Within}
-use Rattle.scan_runs.specs.Lines.{AreApart, IsLesser, IsGreater, IsAlong, IsAbsent}
+use Rattle.scan_runs.specs.Lines.{AreApart, IsAlong, IsAbsent}
 use Rattle.scan_runs.specs.Merge.{IsJoint, IsPutIn, AreStraight}
 use Rattle.grid_sets.specs.Points.{HasPoint}
-use Rattle.grid_sets.specs.declared.End.{End}
 use Rattle.grid_sets.specs.declared.Slant.{Slant}
 use Rattle.scan_runs.specs.declared.part.Part.{Part}
 use Rattle.scan_runs.specs.declared.part.Part.TheVariants.{Absent, Along, Bent}

@@ -32,3 +32,15 @@ pub record AreStrips (os : List Bounds) (top : ℤ) (n : ℕ) (old new : List St
   pub added : new ≡ old ++ more
   pub rows : AreRowsBetween (HasPoint os) top (top +ℤ pos n) (all_rows more)
   pub small : AreSmallStrips more
+
+-- all points of the octagons are from top to bottom, within 2 ^ 40
+pub record IsSpan (os : List Bounds) (top bottom : ℤ) : Type 0 where
+  pub points : (x y : ℤ) → HasPoint os x y → (top ≤ℤ y) × (y ≤ℤ bottom)
+  pub first : IsNearZero (2 ^ 40) top
+  pub last : IsNearZero (2 ^ 40) bottom
+
+-- the new span also has the rows of o
+pub record IsWiderSpan (o : Bounds) (top bottom upper lower : ℤ) : Type 0 where
+  pub above : (upper ≤ℤ top) × (upper ≤ℤ o.y0)
+  pub below : (bottom ≤ℤ lower) × (o.y1 ≤ℤ lower)
+  pub near : IsNearZero (2 ^ 40) top → IsNearZero (2 ^ 40) bottom → IsNearZero (2 ^ 40) upper × IsNearZero (2 ^ 40) lower

@@ -46,7 +46,10 @@ pub(crate) fn left_of(x0: i64, s0: i64, d0: i64, top: i64, more: u64) -> Option<
 {
     let bottom = top + more as i64;
     if is_greatest(x0, s0 - top, d0 + bottom) {
-        return Some(End { place: x0, go: Move::Still });
+        return Some(End {
+            place: x0,
+            go: Move::Still,
+        });
     }
     if is_greatest(s0 - bottom, x0, d0 + bottom) {
         return Some(End {
@@ -75,7 +78,10 @@ pub(crate) fn right_of(x1: i64, s1: i64, d1: i64, top: i64, more: u64) -> Option
 {
     let bottom = top + more as i64;
     if is_least(x1, s1 - bottom, d1 + top) {
-        return Some(End { place: x1, go: Move::Still });
+        return Some(End {
+            place: x1,
+            go: Move::Still,
+        });
     }
     if is_least(s1 - top, x1, d1 + top) {
         return Some(End {

@@ -12,12 +12,13 @@ use grid_sets::Slant;
 use octagon::Oct;
 use std::alloc::Global;
 
-// A row, and how many more there are below it, with the runs in the first row and their moves.
+/// A row and `more` rows below it: their first y, and the runs of the first row with their moves from each row to the
+/// next.
 #[derive(Drop)]
-pub(crate) struct Strip {
-    pub(crate) top: i64,
-    pub(crate) more: u64,
-    pub(crate) runs: Vec<Slant>,
+pub struct Strip {
+    pub top: i64,
+    pub more: u64,
+    pub runs: Vec<Slant>,
 }
 
 // Adds the rows of the octagons on a stretch. Each stretch is handed the octagons that were open above it.
@@ -76,12 +77,7 @@ fn is_open(oct: &Oct, top: i64, bottom: i64) -> bool
 }
 
 // The runs of all the octagons on the stretch, if they are straight and keep their order.
-fn straight(
-    alloc: Global,
-    octs: &[Oct],
-    top: i64,
-    more: u64,
-) -> Result<Option<Vec<Slant>>, Memory>
+fn straight(alloc: Global, octs: &[Oct], top: i64, more: u64) -> Result<Option<Vec<Slant>>, Memory>
     requires top { IsNearZero (2 ^ 40) top }
     requires more { more ≤ 2 ^ 41 }
     ensures some { IfOk result (λ r. IfSome r (λ runs. IsSoFar octs.now top more runs.items)) }
