@@ -1,17 +1,16 @@
 -- The corners of an area, and its hull.
-use Rattle.std.proofs.Common.{◌≡◌, refl, sym, subst, ap, ◌∙◌, ℕ, ◌+◌, ◌*◌, ◌≤◌, ◌<◌, arith, Result, Ok, Err, IfOk, w64, to_z, of_z, FitsSigned, List, [], ◌∷◌, length}
-use Rattle.std.specs.Prelude.{ℤ, pos, neg_ℤ, ◌+ℤ◌, ◌-ℤ◌, ◌*ℤ◌, ◌≤ℤ◌, Any}
+use Rattle.std.proofs.Common.{◌≡◌, refl, sym, subst, ℕ, ◌+◌, arith, Result, Ok, Err, IfOk, w64, to_z, of_z, FitsSigned, List, [], ◌∷◌}
+use Rattle.std.specs.Prelude.{ℤ, ◌+ℤ◌, ◌-ℤ◌, ◌≤ℤ◌}
 use Rattle.std.specs.List.{All}
 use Rattle.std.proofs.lemmas.Int.{ints}
 use Rattle.std.proofs.lemmas.List.Elements.{All-cons, All-nil}
 use Rattle.grid_num.specs.declared.Point.{Point}
-use Rattle.plane.specs.Plane.{PlanePoint, Bounds, IsTight, box_of, times}
+use Rattle.plane.specs.Plane.{PlanePoint, Bounds, IsTight}
 use Rattle.plane.specs.Narrow.{IsNearZero}
 use Rattle.octagon.specs.Room.{IsAround}
 use Rattle.covering.specs.Corners.{corners_of}
 use Rattle.touching.specs.Core.{Core, area, line, IsWhole, InCopper}
-use Rattle.cores.specs.Room.{IsInRoom, spot}
-use Rattle.copper_shape.specs.Shapes.{IsLineWithin, IsCoreWithin}
+use Rattle.cores.specs.Room.{IsInRoom, IsAreaInRoom, IsLineInRoom, IsCoreInRoom, spot}
 use Rattle.hulls.specs.Hulls.{hull_of, hulls_of, in_units}
 use Rattle.hulls.specs.Laws.{InSome}
 use Rattle.hulls.proofs.Copper.{copper_law}
@@ -154,17 +153,20 @@ if_ok P Q (Ok x) f h = f x h
 if_ok P Q (Err e) f h = tt
 
 -- ---- the two kinds of cores
-pub line_ends : (m : ℕ) (p q : Point) (c : Core) → line (spot p) (spot q) ≡ c → IsCoreWithin m c → IsInRoom m p × IsInRoom m q
-unfolding IsCoreWithin
+pub line_ends : (m : ℕ) (p q : Point) (c : Core) → line (spot p) (spot q) ≡ c → IsCoreInRoom m c → IsInRoom m p × IsInRoom m q
+unfolding IsCoreInRoom
 line_ends m p q c e h =
-    let P : Core → Type 0 = λ z. IsCoreWithin m z in
-    let w : IsLineWithin m (spot p) (spot q) = subst P (sym e) h in
-    (record { x = w.start_x; y = w.start_y }, record { x = w.finish_x; y = w.finish_y })
+    let P : Core → Type 0 = λ z. IsCoreInRoom m z in
+    let w : IsLineInRoom m (spot p) (spot q) = subst P (sym e) h in
+    (record { x = w.sx; y = w.sy }, record { x = w.tx; y = w.ty })
 
 pub area_tight : (b : Bounds) (c : Core) → area b ≡ c → IsWhole c → IsTight b
 unfolding IsWhole
 area_tight b c e h = subst (λ (z : Core). IsWhole z) (sym e) h
 
-pub area_around : (m : ℕ) (b : Bounds) (c : Core) → area b ≡ c → IsCoreWithin m c → IsAround m b
-unfolding IsCoreWithin
-area_around m b c e h = subst (λ (z : Core). IsCoreWithin m z) (sym e) h
+pub around_of : (m : ℕ) (b : Bounds) → IsAreaInRoom m b → IsAround m b
+around_of m b h = record { x_low = h.left; x_high = h.right; y_low = h.top; y_high = h.bottom }
+
+pub area_around : (m : ℕ) (b : Bounds) (c : Core) → area b ≡ c → IsCoreInRoom m c → IsAround m b
+unfolding IsCoreInRoom
+area_around m b c e h = around_of m b (subst (λ (z : Core). IsCoreInRoom m z) (sym e) h)

@@ -1,6 +1,6 @@
 -- The cells of a list of places, and the octagon round them.
-use Rattle.std.proofs.Common.{◌≡◌, refl, sym, ap, ◌∙◌, ℕ, zero, suc, ◌+◌, ◌*◌, ◌≤◌, ◌<◌, ◌^◌, arith, List, [], ◌∷◌, ◌++◌, length, drop, get_or, append_assoc}
-use Rattle.std.specs.Prelude.{ℤ, pos, neg_ℤ, ◌+ℤ◌, ◌≤ℤ◌}
+use Rattle.std.proofs.Common.{◌≡◌, sym, ap, ◌∙◌, ℕ, suc, ◌+◌, ◌*◌, ◌≤◌, ◌<◌, arith, List, [], ◌∷◌, ◌++◌, length, drop, get_or, append_assoc}
+use Rattle.std.specs.Prelude.{pos, neg_ℤ}
 use Rattle.std.specs.Int.{div_ceil}
 use Rattle.std.specs.List.{All}
 use Rattle.std.proofs.Math.Seq.{drop-cons, drop-length}
@@ -8,9 +8,8 @@ use Rattle.std.proofs.lemmas.List.{append-nil}
 use Rattle.std.proofs.lemmas.List.Elements.{All-head, All-tail, All-cons, All-nil, All-append}
 use Rattle.std.proofs.lemmas.Int.{ints}
 use Rattle.grid_num.specs.declared.Point.{Point}
-use Rattle.plane.specs.Plane.{PlanePoint, Bounds, Within, In, IsTight, IsOct, HasRoom, sum_of, ball_of, box_of}
-use Rattle.plane.specs.Narrow.{IsNearZero}
-use Rattle.hulls.specs.Cells.{floor_of, ceil_of, cell_of, cells_of, around}
+use Rattle.plane.specs.Plane.{PlanePoint, Bounds, In, IsOct, HasRoom, sum_of, ball_of, box_of}
+use Rattle.hulls.specs.Cells.{cell_of, cells_of, around}
 use Rattle.hulls.specs.Hulls.{hull_of}
 use Rattle.hulls.proofs.Around.{Holds, IsInside, around_inside, one_least_law}
 use Rattle.octagon.specs.Bounded.{IsInReach}

@@ -1,14 +1,13 @@
 -- The chord of an arc, and the disc on it.
-use Rattle.std.proofs.Common.{◌≡◌, refl, sym, ap, ◌∙◌, ℕ, ◌+◌, ◌*◌, ◌^◌, ◌≤◌, ◌<◌, arith, w64, to_z, of_z, List, [], ◌∷◌}
-use Rattle.std.specs.Prelude.{ℤ, pos, ◌+ℤ◌, ◌-ℤ◌, ◌*ℤ◌, ◌≤ℤ◌, Bool, true, false}
+use Rattle.std.proofs.Common.{◌≡◌, refl, sym, ℕ, ◌+◌, ◌*◌, ◌≤◌, arith, List}
+use Rattle.std.specs.Prelude.{ℤ, ◌+ℤ◌, ◌-ℤ◌, Bool, true, false}
 use Rattle.std.specs.Int.RustNames.{unsigned_abs}
 use Rattle.std.proofs.lemmas.Int.{ints}
 use Rattle.std.proofs.Math.Nat.{mul-le-mul}
 use Rattle.grid_num.specs.declared.Point.{Point}
 use Rattle.plane.specs.Plane.{PlanePoint, Bounds, box_of, least_root}
-use Rattle.covering.specs.Corners.{corners_of}
 use Rattle.touching.specs.Core.{Core, Spot, area, line, OnLine}
-use Rattle.hulls.specs.Hulls.{chord_of, hull_of, hulls_of, edge_core, edge_radius, edge_hulls_of, in_halves}
+use Rattle.hulls.specs.Hulls.{chord_of, hulls_of, edge_core, edge_radius, edge_hulls_of, in_halves}
 use Rattle.hulls.specs.Laws.{InSome, InChordDisc, nm_in_units}
 use Rattle.hulls.proofs.Edges.{root_reaches, root_least, segment_law, chord_disc_law}
 use Rattle.cores.specs.Room.{IsInRoom, spot}

@@ -1,6 +1,6 @@
 -- The places that cut a segment, and how many there are.
-use Rattle.std.proofs.Common.{◌≡◌, refl, sym, ap, ◌∙◌, ℕ, zero, suc, ◌+◌, ◌-◌, ◌*◌, ◌≤◌, ◌<◌, arith, w64, to_z, of_z, FitsSigned, List, [], ◌∷◌, ◌++◌, append_assoc}
-use Rattle.std.specs.Prelude.{ℤ, pos, neg_ℤ, ◌+ℤ◌, ◌-ℤ◌, ◌*ℤ◌, ◌≤ℤ◌, Bool, true, false, min, max}
+use Rattle.std.proofs.Common.{◌≡◌, refl, sym, ap, ◌∙◌, ℕ, suc, ◌+◌, ◌-◌, ◌*◌, ◌≤◌, ◌<◌, arith, w64, to_z, of_z, FitsSigned, List, [], ◌∷◌, ◌++◌, append_assoc}
+use Rattle.std.specs.Prelude.{ℤ, pos, neg_ℤ, ◌+ℤ◌, ◌-ℤ◌, ◌*ℤ◌, Bool, true, false, min, max}
 use Rattle.std.specs.Int.{div_ceil}
 use Rattle.std.specs.Int.RustNames.{unsigned_abs}
 use Rattle.std.proofs.lemmas.Int.{ints}
@@ -11,7 +11,6 @@ use Rattle.plane.specs.Narrow.{IsNearZero}
 use Rattle.plane.proofs.Times.{mul_le, mul_neg}
 use Rattle.touching.specs.Core.{Spot, line}
 use Rattle.hulls.specs.Hulls.{hull_of, cut_at, is_slanted, piece_count, piece_hull, piece_hulls, hulls_of}
-use Rattle.cores.specs.Room.{IsInRoom}
 use Rattle.copper_shape.specs.Ranges.{IsPlace}
 
 pub product_near : (i m : ℕ) (s : ℤ) → IsNearZero m s → IsNearZero (i * m) (pos i *ℤ s)

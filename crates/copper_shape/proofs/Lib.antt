@@ -5,3 +5,4 @@ pub mod Chords
 pub mod Within
 pub mod Areas
 pub mod Reach
+pub mod Centres

@@ -1,6 +1,6 @@
 -- How far hulls reach.
-use Rattle.std.proofs.Common.{◌≡◌, refl, sym, subst, ap, ◌∙◌, ℕ, zero, suc, ◌+◌, ◌-◌, ◌*◌, ◌≤◌, ◌<◌, arith, List, [], ◌∷◌, length}
-use Rattle.std.specs.Prelude.{ℤ, pos, neg_ℤ, ◌+ℤ◌, ◌*ℤ◌, ◌≤ℤ◌}
+use Rattle.std.proofs.Common.{◌≡◌, sym, ap, ◌∙◌, ℕ, zero, suc, ◌+◌, ◌-◌, ◌*◌, ◌≤◌, ◌<◌, arith, List, [], ◌∷◌, length}
+use Rattle.std.specs.Prelude.{ℤ, pos, ◌+ℤ◌, ◌*ℤ◌}
 use Rattle.std.specs.Int.{div_ceil}
 use Rattle.std.specs.List.{All}
 use Rattle.std.proofs.lemmas.List.Elements.{All-cons, All-nil}
@@ -12,15 +12,13 @@ use Rattle.plane.specs.Narrow.{IsNearZero}
 use Rattle.octagon.specs.Room.{IsAround}
 use Rattle.covering.specs.Corners.{corners_of}
 use Rattle.touching.specs.Core.{Core, Spot, area, line, IsWhole}
-use Rattle.cores.specs.Room.{IsInRoom}
-use Rattle.hulls.specs.Cells.{cells_of, around}
+use Rattle.cores.specs.Room.{IsInRoom, IsLineInRoom, IsCoreInRoom}
+use Rattle.hulls.specs.Cells.{cells_of}
 use Rattle.hulls.specs.Hulls.{hull_of, cut_at, piece_hull, piece_hulls, pieces_of, hulls_of}
-use Rattle.hulls.proofs.Copper.{some_piece}
-use Rattle.copper_shape.specs.Shapes.{IsLineWithin, IsCoreWithin}
 use Rattle.copper_shape.specs.Laws.{ReachLaw}
 use Rattle.copper_shape.proofs.CellLists.{cells_near, cells_some, around_near}
 use Rattle.copper_shape.proofs.Cuts.{product_near}
-use Rattle.copper_shape.proofs.Areas.{corner_places}
+use Rattle.copper_shape.proofs.Areas.{corner_places, around_of}
 
 quarter : (r a : ℕ) → r ≤ 4 * a → div_ceil r 4 ≤ a
 quarter r a h = omega arith
@@ -47,14 +45,14 @@ mean_near k i m s t l h g =
     let f : k * (4 * m) ≡ 4 * k * m = omega arith in
     record { low = omega (arith, ints, p.low, q.low, e, f); high = omega (arith, ints, p.high, q.high, e, f) }
 
-cut_near : (s t : Spot) (k i m : ℕ) → i ≤ k → IsLineWithin (4 * m) s t → IsInRoom (4 * k * m) (cut_at s t k i)
+cut_near : (s t : Spot) (k i m : ℕ) → i ≤ k → IsLineInRoom (4 * m) s t → IsInRoom (4 * k * m) (cut_at s t k i)
 unfolding cut_at
-cut_near s t k i m l h = record { x = mean_near k i m s.x t.x l h.start_x h.finish_x; y = mean_near k i m s.y t.y l h.start_y h.finish_y }
+cut_near s t k i m l h = record { x = mean_near k i m s.x t.x l h.sx h.tx; y = mean_near k i m s.y t.y l h.sy h.ty }
 
 two : {X : Type 0} (P : X → Type 0) (a b : X) → P a → P b → All P (a ∷ b ∷ [])
 two P a b ha hb = All-cons P a (b ∷ []) ha (All-cons P b [] hb (All-nil P))
 
-pieces_reach : (s t : Spot) (k m a r i n : ℕ) → i + n ≤ k → IsLineWithin (4 * m) s t → r ≤ 4 * a → All (IsAround (m + a)) (piece_hulls s t k r i n)
+pieces_reach : (s t : Spot) (k m a r i n : ℕ) → i + n ≤ k → IsLineInRoom (4 * m) s t → r ≤ 4 * a → All (IsAround (m + a)) (piece_hulls s t k r i n)
 unfolding piece_hulls piece_hull
 pieces_reach s t k m a r i zero w h l = All-nil (IsAround (m + a))
 pieces_reach s t k m a r i (suc n) w h l =
@@ -64,11 +62,11 @@ pieces_reach s t k m a r i (suc n) w h l =
     (pieces_reach s t k m a r (suc i) n (omega arith) h l)
 
 pub reach_law : ReachLaw
-unfolding IsWhole IsCoreWithin hulls_of
+unfolding IsWhole IsCoreInRoom hulls_of
 reach_law m a (area b) r whole near l =
-    All-cons (IsAround (m + a)) (hull_of 4 (corners_of b) r) [] (hull_reach 4 m a (corners_of b) r (omega arith) (omega arith) (corner_places (4 * m) b whole near) l)
+    All-cons (IsAround (m + a)) (hull_of 4 (corners_of b) r) [] (hull_reach 4 m a (corners_of b) r (omega arith) (omega arith) (corner_places (4 * m) b whole (around_of (4 * m) b near)) l)
     (All-nil (IsAround (m + a)))
 reach_law m a (line s t) r whole near l = pieces_reach s t (pieces_of s t) m a r 0 (pieces_of s t) (omega arith) near l
 
-pub shape_reach : (c : Core) (r : ℕ) (hulls : List Bounds) → hulls ≡ hulls_of c r → IsWhole c → IsCoreWithin 2000000000 c → r ≤ 2000000000 → All (IsAround 1000000000) hulls
+pub shape_reach : (c : Core) (r : ℕ) (hulls : List Bounds) → hulls ≡ hulls_of c r → IsWhole c → IsCoreInRoom 2000000000 c → r ≤ 2000000000 → All (IsAround 1000000000) hulls
 shape_reach c r hulls e w h l = rw e (reach_law 500000000 500000000 c r w h l)

@@ -4,8 +4,10 @@ use Rattle.std.specs.List.{All}
 use Rattle.octagon.specs.Room.{IsAround}
 use Rattle.touching.specs.Core.{Core, IsWhole}
 use Rattle.hulls.specs.Hulls.{hulls_of}
-use Rattle.copper_shape.specs.Shapes.{IsCoreWithin}
+use Rattle.cores.specs.Room.{IsCoreInRoom}
 
 -- the hulls of a core within m units of 0 and a radius of at most a units lie within m + a units of 0
 abbrev pub ReachLaw : Type 0
-ReachLaw = (m a : ℕ) (c : Core) (r : ℕ) → IsWhole c → IsCoreWithin (4 * m) c → r ≤ 4 * a → All (IsAround (m + a)) (hulls_of c r)
+ReachLaw =
+    (m a : ℕ) (c : Core) (r : ℕ) → IsWhole c → IsCoreInRoom (4 * m) c → r ≤ 4 * a
+    → All (IsAround (m + a)) (hulls_of c r)

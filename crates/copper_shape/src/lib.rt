@@ -3,11 +3,12 @@
 //! Cores and radii are in halves of a nanometre, hulls in units of the grid (2 nm), board edges in nanometres.
 #![tactic(auto)]
 
-ghost use Rattle.std.specs.Prelude.{◌≡◌, ℤ, length, IfOk};
+ghost use Rattle.std.specs.Prelude.{◌≡◌, ◌+◌, ◌≤◌, ◌↔◌, ℤ, length, IsTrue, IfOk};
 ghost use Rattle.std.specs.List.{All};
 ghost use Rattle.plane.specs.Plane.{PlanePoint, Within, grid_point};
 ghost use Rattle.octagon.specs.Room.{IsAround};
-ghost use Rattle.touching.specs.Core.{InCore, InCopper};
+ghost use Rattle.touching.specs.Core.{InCore, InCopper, Touches};
+ghost use Rattle.cores.specs.Room.{IsCoreInRoom};
 ghost use Rattle.hulls.specs.Cells.{floor_of};
 ghost use Rattle.hulls.specs.Hulls.{hulls_of, in_units};
 ghost use Rattle.hulls.specs.Laws.{InSome, IsPad};
@@ -17,11 +18,14 @@ ghost use Rattle.copper_shape.specs.Laws.{ReachLaw};
 mod area;
 mod cells;
 mod edge;
+#[cfg(test)]
+mod hull_table;
 mod make;
 mod pieces;
 #[cfg(test)]
 mod tests;
 
+pub use cores::dist_sq;
 use cores::{Core, Kind};
 pub use edge::{Edge, edge_hulls};
 use grid_num::Memory;
@@ -78,6 +82,18 @@ impl Shape {
         ensures reach { IfOk result (λ hulls. All (IsAround 1000000000) hulls.items) }
     {
         hulls_of(alloc, &self.core, self.radius)
+    }
+
+    /// Whether some points of the two cores are at most as far apart as both radii together; just as far apart touches,
+    /// too. It is exact, by the copper and not by the hulls.
+    pub fn touches(&self, other: &Shape) -> bool
+        requires room { IsCoreInRoom 1200000000 self.now.core }
+        requires other_room { IsCoreInRoom 1200000000 other.now.core }
+        requires radius { self.now.radius ≤ 200000000 }
+        requires other_radius { other.now.radius ≤ 200000000 }
+        ensures { IsTrue result ↔ Touches (self.now.radius + other.now.radius) self.now.core other.now.core }
+    {
+        self.core.is_within(&other.core, self.radius + other.radius)
     }
 }
 

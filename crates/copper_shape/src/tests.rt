@@ -2,7 +2,8 @@
 ghost use Rattle.std.specs.Prelude.{◌≤◌, IfSome};
 ghost use Rattle.cores.specs.Room.{IsInRoom};
 
-use crate::{Edge, Shape, edge_hulls};
+use crate::hull_table::SEGMENTS;
+use crate::{Edge, Shape, dist_sq, edge_hulls};
 use cores::Kind;
 use grid_num::Point;
 use octagon::Oct;
@@ -145,36 +146,56 @@ fn an_arc_of_the_board_edge_has_the_disc_on_its_chord(rt: HostRuntime) -> Result
     Ok(())
 }
 
-// Random segments, and some level, upright and slanted ones, made by bench/hull_table.py in exact fractions: ends and
-// radius in halves, how many hulls there are, the number of one of them, and its bounds in units.
-const SEGMENTS: &str = "\
-1 7 -9 -8 3 1 0 -4 2 -3 3 -7 5 -4 2
-34 -32 26 -12 1 1 0 5 10 -9 -2 -2 6 7 19
--140 40 132 343 1 1 0 -36 34 9 87 -27 121 -55 -43
-351525 66390 -345685 42111 3 2 0 729 87883 13561 16599 14290 104482 -12835 71287
--175589 135693 370702 107414 199999999 2 1 -49975611 50092676 -49973147 50030389 -70655902 70830209 -70716679 70776502
-1346020 2053080 2860323 2053080 1000000 1 0 86505 965081 263270 763270 496221 1581905 -530319 555365
--18555855 4161233 14542485 -5653522 2 64 0 -4638965 -4509672 1001968 1040310 -3598658 -3507701 -5679275 -5511640
-52286223 -57441336 32350789 29904643 199999999 64 32 -39498247 60579627 -53442087 46899109 -63573140 78111542 -57108035 84732393
--1413990026 -783513985 -1413990026 -1135426919 2 1 0 -353497508 -353497505 -283856731 -195878495 -637354239 -549376000 -157619013 -69640774
--9 5 8 0 1000000 1 0 -250003 250002 -250000 250002 -353556 353556 -353559 353556
--26 -31 2 -39 1000000 1 0 -250007 250001 -250010 249993 -353569 353546 -353554 353565
-478 134 -392 -736 1 1 0 -99 121 -185 35 -284 156 83 89
--292532 271127 -37378 -192751 1 2 0 -73134 -41237 9796 67783 -31444 -5349 -140917 -51033
-382823 -3283 386936 -399376 2 1 0 95704 96735 -99845 -819 -3112 94888 96523 196580
-651479 1695169 2646259 1911674 0 5 4 561825 661565 467093 477919 1028918 1139484 94731 183647
-1087134 -15275185 18581938 23172102 199999999 64 0 -49728217 50340123 -53818797 46331389 -74257693 67382191 -66701946 74801260
-21128460 36245828 -25596848 -45704414 2 64 32 -741071 -558547 -1502443 -1182322 -2243514 -1740869 623772 761375
-865059534 1922892867 1124922196 1922892867 0 1 0 216264883 281230549 480723216 480723217 696988099 761953766 -264458334 -199492667
-8 3 5 5 1 1 0 0 3 -1 3 0 6 -3 4
-11 -15 1 -30 0 1 0 0 3 -8 -3 -8 0 5 9
-60 208 60 222 199999999 1 0 -49999985 50000015 -49999948 50000056 -70710612 70710750 -70710720 70710642
-27886 66264 -329160 338360 199999999 1 0 -50082290 50006972 -49983434 50084590 -70708379 70734217 -70877559 70701085
-212488 140709 10552 -339265 199999999 2 1 -49997362 50027880 -50084817 49975181 -70792858 70713740 -70657980 70798134
-239603 -507674 2698816 1951539 199999999 1 0 -49940100 50674704 -50126919 50487885 -70777698 71873268 -70523861 70897499
--1153824 15139543 5891759 -17125248 199999999 64 0 -50288456 49739066 -46341149 53784886 -67312763 74207109 -74784021 66790894
--36799158 56705760 64481612 1553117 3 64 32 3460305 3855936 7066918 7282361 10742663 10922857 -3822056 -3210982
--1142468394 -1891604630 -1690123776 1626750428 1 64 63 -422530945 -420391664 392944031 406687608 -27447636 -15843335 -829218553 -813335695";
+// Whether the two touch, if they lie where that may be asked.
+fn touch(first: &Shape, second: &Shape) -> Option<bool> {
+    if !first.core().has_room() || !second.core().has_room() {
+        return None;
+    }
+    if first.radius() > 200_000_000 || second.radius() > 200_000_000 {
+        return None;
+    }
+    Some(first.touches(second))
+}
+
+#[test]
+fn touching_is_told_to_the_nanometre(rt: HostRuntime) -> Result<(), Fail> {
+    // a track from (0 0) to (2 1) mm, 0.25 mm wide, and a via of 0.75 mm at (2.3 1.4): from the track's end the via is
+    // 0.3 and 0.4 mm away, so 0.5 mm, the sum of both radii; 1 nm further to the right they don't touch
+    let track = Shape::capsule(
+        Point { x: 0, y: 0 },
+        Point {
+            x: 4_000_000,
+            y: 2_000_000,
+        },
+        250_000,
+    );
+    for (x, touching) in [(4_600_000, true), (4_600_002, false)] {
+        let via = Shape::disc(Point { x, y: 2_800_000 }, 750_000);
+        assert_eq!(rt; touch(&track, &via), Some(touching), "{x}");
+        assert_eq!(rt; touch(&via, &track), Some(touching), "{x}");
+    }
+    // the inside of a pad counts; two round pads of 1 mm, whose centres are 0.707107 mm apart in x and in y, so a bit over
+    // 1 mm, don't touch, though their hulls share a point
+    let pad = Shape::box_round(Point { x: 0, y: 0 }, 2_000_000, 2_000_000, 0);
+    let speck = Shape::disc(Point { x: 1, y: 1 }, 0);
+    assert_eq!(rt; touch(&pad, &speck), Some(true));
+    let first = Shape::disc(Point { x: 0, y: 0 }, 1_000_000);
+    let second = Shape::disc(
+        Point {
+            x: 1_414_214,
+            y: 1_414_214,
+        },
+        1_000_000,
+    );
+    assert_eq!(rt; touch(&first, &second), Some(false));
+    let near = first.hulls(rt.alloc())?;
+    let far = second.hulls(rt.alloc())?;
+    let near = near.first().ok_or("a hull")?;
+    let far = far.first().ok_or("a hull")?;
+    assert!(rt; near.meets(far));
+    assert!(rt; dist_sq(Point { x: 0, y: 0 }, Point { x: 3, y: -4 }) == 25);
+    Ok(())
+}
 
 fn row_of(line: &str) -> Option<[i64; 15]> {
     let mut row = [0; 15];

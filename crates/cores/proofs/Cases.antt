@@ -6,7 +6,7 @@ use Rattle.touching.specs.Core.{Core, Spot, area, line, IsWhole, Touches}
 use Rattle.touching.specs.Decision.{IsOriginClose, IsAreaClose, AreLinesClose, AreClose, steps_of}
 use Rattle.touching.proofs.Decided.{decision_law}
 use Rattle.grid_num.specs.declared.Point.{Point}
-use Rattle.cores.specs.Room.{spot, IsInRoom, IsAreaInRoom, IsCoreInRoom}
+use Rattle.cores.specs.Room.{spot, IsInRoom, IsLineInRoom, IsAreaInRoom, IsCoreInRoom}
 
 pub area_tight : (b : Bounds) → IsWhole (area b) → IsTight b
 unfolding IsWhole
@@ -39,6 +39,14 @@ line_case r a b s t h = h
 pub lines_case : (r : Bool) (a : ℕ) (s t u v : Spot) → IsTrue r ↔ AreLinesClose a s t u v → IsTrue r ↔ AreClose a (line s t) (line u v)
 unfolding AreClose
 lines_case r a s t u v h = h
+
+pub area_in_room : (r : Bool) (m : ℕ) (b : Bounds) → IsTrue r ↔ IsAreaInRoom m b → IsTrue r ↔ IsCoreInRoom m (area b)
+unfolding IsCoreInRoom
+area_in_room r m b h = h
+
+pub line_in_room : (r : Bool) (m : ℕ) (s t : Spot) → IsTrue r ↔ IsLineInRoom m s t → IsTrue r ↔ IsCoreInRoom m (line s t)
+unfolding IsCoreInRoom
+line_in_room r m s t h = h
 
 -- the decision speaks of the cores' points
 pub decides : (r : Bool) (reach a : ℕ) (c d e f : Core) → a ≡ reach * reach → e ≡ c → f ≡ d → IsWhole c → IsWhole d → IsTrue r ↔ AreClose a e f → IsTrue r ↔ Touches reach c d

@@ -9,7 +9,7 @@ pub struct Line {
     pub to: Point,
 }
 
-/// An area or a line.
+/// What a core is: its bounds, which are tight, or its ends.
 #[derive(Clone, Copy, PartialEq, Eq, Debug)]
 pub enum Kind {
     Area(Area),

@@ -18,8 +18,12 @@ mod line;
 mod number;
 mod sides;
 mod steps;
+#[cfg(test)]
+mod table;
+#[cfg(test)]
+mod tests;
 
-use crate::close::are_close;
+use crate::close::{are_close, is_in_room};
 pub use area::Area;
 pub use distance::dist_sq;
 use grid_num::Point;
@@ -98,6 +102,14 @@ impl Core {
         ensures whole { IsWhole self.now }
     {
         self.kind
+    }
+
+    /// Whether all coordinates lie within 1,200,000,000 of 0, as `is_within` asks.
+    pub fn has_room(&self) -> bool
+        ensures { IsTrue result ↔ IsCoreInRoom 1200000000 self.now }
+    {
+        let kind = self.kind();
+        is_in_room(&kind)
     }
 
     /// Whether some point of this core is at most the reach away from some point of the other. A distance of just the

@@ -1,6 +1,6 @@
 -- The least octagon round grid points.
-use Rattle.std.proofs.Common.{◌≡◌, ℕ, zero, suc, ◌<◌, inl, inr, arith, List, [], ◌∷◌, length}
-use Rattle.std.specs.Prelude.{ℤ, pos, ◌+ℤ◌, ◌-ℤ◌, ◌≤ℤ◌, ◌↔◌}
+use Rattle.std.proofs.Common.{◌<◌, arith, List, [], ◌∷◌, length}
+use Rattle.std.specs.Prelude.{ℤ, pos, ◌≤ℤ◌}
 use Rattle.std.specs.List.{All}
 use Rattle.std.proofs.lemmas.List.Elements.{All-head, All-tail, All-cons, All-nil}
 use Rattle.std.proofs.lemmas.Int.{ints, clamps}
@@ -9,7 +9,7 @@ use Rattle.plane.specs.Plane.{PlanePoint, Bounds, Within, In, IsTight, grid_poin
 use Rattle.plane.proofs.Times.{mul_le}
 use Rattle.plane.proofs.Tight.{same_points}
 use Rattle.hulls.specs.Cells.{octagon_at, widened, around}
-use Rattle.hulls.specs.Laws.{IsLeastRound, LeastLaw, OneLeastLaw}
+use Rattle.hulls.specs.Laws.{LeastLaw, OneLeastLaw}
 
 abbrev pub Holds : Bounds → Point → Type 0
 Holds b p = Within b p.x p.y

@@ -1,21 +1,21 @@
 -- Every point of copper is in one of its hulls.
-use Rattle.std.proofs.Common.{◌≡◌, refl, sym, subst, ap, ℕ, zero, suc, ◌+◌, ◌*◌, ◌-◌, ◌≤◌, ◌<◌, inl, inr, arith, List, [], ◌∷◌, get_or}
+use Rattle.std.proofs.Common.{◌≡◌, subst, ℕ, zero, suc, ◌+◌, ◌*◌, ◌-◌, ◌≤◌, ◌<◌, inl, inr, arith, [], ◌∷◌}
 use Rattle.std.specs.Prelude.{ℤ, pos, ◌+ℤ◌, ◌-ℤ◌, ◌*ℤ◌, ◌≤ℤ◌, Any, Bool, true, false, if◌then◌else◌, min, max}
 use Rattle.std.specs.Int.{div_ceil}
 use Rattle.std.proofs.lemmas.Int.{ints}
 use Rattle.std.proofs.lemmas.Bool.{cases_lt}
 use Rattle.grid_num.specs.declared.Point.{Point}
-use Rattle.plane.specs.Plane.{PlanePoint, Bounds, Within, In, times, sum_of, ball_of, IsSame}
-use Rattle.plane.proofs.Times.{mul_le, mul_add, mul_sub}
-use Rattle.plane.proofs.Points.{mul_mul, mul_swap, In-same}
+use Rattle.plane.specs.Plane.{PlanePoint, Bounds, Within, In, times, sum_of, ball_of}
+use Rattle.plane.proofs.Times.{mul_le}
+use Rattle.plane.proofs.Points.{mul_mul, In-same}
 use Rattle.covering.specs.Corners.{corners_of}
 use Rattle.covering.proofs.Lists.{any_head, any_tail}
-use Rattle.touching.specs.Core.{Core, Spot, area, line, OnLine, InCore, InCopper, IsReached}
+use Rattle.touching.specs.Core.{Spot, area, line, OnLine, InCore, InCopper, IsReached}
 use Rattle.hulls.specs.Cells.{cells_of, around}
 use Rattle.hulls.specs.Hulls.{hull_of, cut_at, piece_hull, piece_hulls, pieces_of, piece_count, is_slanted, hulls_of, in_units}
 use Rattle.hulls.specs.Laws.{InSome, CopperLaw}
-use Rattle.hulls.proofs.InCells.{HoldsPlace, around_places}
-use Rattle.hulls.proofs.Means.{weigh, mean_in, IsPiece, piece_of, piece_mean, pieces_out}
+use Rattle.hulls.proofs.InCells.{around_places}
+use Rattle.hulls.proofs.Means.{mean_in, piece_of, piece_mean, pieces_out}
 use Rattle.hulls.proofs.Grown.{grown}
 
 pub quarter_reaches : (r : ℕ) → r ≤ 4 * div_ceil r 4

@@ -1,18 +1,17 @@
 -- Every point of a board edge is in one of its hulls.
-use Rattle.std.proofs.Common.{◌≡◌, refl, sym, ap, ℕ, zero, suc, ◌+◌, ◌*◌, ◌≤◌, ◌<◌, arith, List, mul_comm}
-use Rattle.std.specs.Prelude.{ℤ, pos, neg_ℤ, ◌+ℤ◌, ◌-ℤ◌, ◌*ℤ◌, ◌≤ℤ◌, nat_le, if◌then◌else◌}
+use Rattle.std.proofs.Common.{◌≡◌, ap, ℕ, zero, suc, ◌+◌, ◌*◌, ◌≤◌, ◌<◌, arith, List}
+use Rattle.std.specs.Prelude.{ℤ, pos, ◌+ℤ◌, ◌-ℤ◌, ◌*ℤ◌, ◌≤ℤ◌, nat_le, if◌then◌else◌}
 use Rattle.std.specs.Int.RustNames.{unsigned_abs}
 use Rattle.std.proofs.lemmas.Int.{ints}
 use Rattle.std.proofs.lemmas.Bool.Decides.{nat_tests}
-use Rattle.std.proofs.Math.Nat.{mul-le-mul_left}
 use Rattle.grid_num.specs.declared.Point.{Point}
-use Rattle.plane.specs.Plane.{PlanePoint, Bounds, In, IsSame, minus, grid_point, box_of, least_root, scaled_dist_sq}
-use Rattle.plane.proofs.Times.{mul_le, mul_add, mul_sub}
+use Rattle.plane.specs.Plane.{PlanePoint, Bounds, In, IsSame, minus, grid_point, box_of, least_root}
+use Rattle.plane.proofs.Times.{mul_le, mul_add}
 use Rattle.plane.proofs.Points.{mul_mul, In-same}
 use Rattle.plane.proofs.Near.{square_le}
-use Rattle.touching.specs.Core.{Core, Spot, area, line, OnLine, InCore, InCopper, IsReached}
+use Rattle.touching.specs.Core.{area, line, OnLine, InCore, InCopper, IsReached}
 use Rattle.hulls.specs.Hulls.{chord_of, in_halves, in_units, edge_core, edge_radius, edge_hulls_of, hulls_of}
-use Rattle.hulls.specs.Laws.{InSome, SegmentLaw, ChordLaw, ChordLengthLaw, InChordDisc, IsChord, nm_in_units, spot}
+use Rattle.hulls.specs.Laws.{InSome, SegmentLaw, ChordLaw, ChordLengthLaw, InChordDisc, nm_in_units, spot}
 use Rattle.hulls.proofs.Grown.{square_is}
 use Rattle.hulls.proofs.Copper.{copper_law}
 

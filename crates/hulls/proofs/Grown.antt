@@ -1,13 +1,13 @@
 -- What is at most a radius away from a point of an octagon is in the octagon plus the one round the radius.
-use Rattle.std.proofs.Common.{◌≡◌, refl, sym, ◌∙◌, ap, ℕ, ◌+◌, ◌*◌, ◌-◌, ◌≤◌, ◌<◌, inl, inr, arith, mul_comm}
-use Rattle.std.specs.Prelude.{ℤ, pos, negsuc, neg_ℤ, ◌+ℤ◌, ◌-ℤ◌, ◌*ℤ◌, ◌≤ℤ◌}
+use Rattle.std.proofs.Common.{◌≡◌, refl, ◌∙◌, ap, ℕ, ◌+◌, ◌*◌, ◌-◌, ◌≤◌, inl, inr, arith, mul_comm}
+use Rattle.std.specs.Prelude.{ℤ, pos, negsuc, ◌+ℤ◌, ◌-ℤ◌, ◌*ℤ◌, ◌≤ℤ◌}
 use Rattle.std.specs.Int.RustNames.{unsigned_abs}
 use Rattle.std.proofs.lemmas.Int.{ints}
 use Rattle.std.proofs.lemmas.Bool.{cases_lt}
 use Rattle.std.proofs.Math.Nat.{mul-le-mul_right}
-use Rattle.plane.specs.Plane.{PlanePoint, Bounds, Within, In, times, minus, plus, sum_of, up2_of, ball_of, IsSame, scaled_dist_sq}
-use Rattle.plane.proofs.Times.{mul_neg, mul_add, mul_sub}
-use Rattle.plane.proofs.Points.{mul_mul, mul_swap, In-plus, In-same}
+use Rattle.plane.specs.Plane.{PlanePoint, Bounds, Within, In, times, minus, plus, sum_of, up2_of, ball_of, IsSame}
+use Rattle.plane.proofs.Times.{mul_neg, mul_sub}
+use Rattle.plane.proofs.Points.{mul_mul, In-plus, In-same}
 use Rattle.plane.proofs.Near.{up2_reaches, square_le}
 use Rattle.touching.specs.Core.{IsReached}
 use Rattle.hulls.specs.Hulls.{in_units}

@@ -1,5 +1,5 @@
 -- Places lie in the octagon of their cells.
-use Rattle.std.proofs.Common.{◌≡◌, ℕ, ◌≤◌, ◌<◌, arith, List, [], ◌∷◌, ◌++◌, get_or}
+use Rattle.std.proofs.Common.{ℕ, ◌≤◌, ◌<◌, arith, List, [], ◌∷◌, ◌++◌, get_or}
 use Rattle.std.specs.Prelude.{ℤ, pos, ◌+ℤ◌, ◌-ℤ◌, ◌*ℤ◌, ◌≤ℤ◌}
 use Rattle.std.specs.List.{All}
 use Rattle.std.proofs.lemmas.List.Elements.{All-head, All-tail, All-cons, All-nil}

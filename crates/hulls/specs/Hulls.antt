@@ -1,6 +1,6 @@
 -- The hulls of copper and of board edges: octagons, in units of the grid (2 nm), that hold all of it. Copper is given in
 -- halves of a nanometre, 4 to the unit; a board edge in nanometres.
-use Rattle.std.specs.Prelude.{ℕ, ◌≤◌, zero, suc, ◌+◌, ◌-◌, ◌*◌, min, max, ◌==◌, ◌&&◌, not, Bool, true, false, if◌then◌else◌, ℤ, pos, ◌+ℤ◌, ◌-ℤ◌, ◌*ℤ◌, ◌≤ℤ◌, List, [], ◌∷◌}
+use Rattle.std.specs.Prelude.{ℕ, ◌≤◌, zero, suc, ◌+◌, ◌-◌, ◌*◌, min, max, ◌==◌, ◌&&◌, not, Bool, true, false, if◌then◌else◌, pos, ◌+ℤ◌, ◌-ℤ◌, ◌*ℤ◌, List, [], ◌∷◌}
 use Rattle.std.specs.Int.{div_ceil}
 use Rattle.std.specs.Int.RustNames.{unsigned_abs}
 use Rattle.std.proofs.Common.{lit≤}
@@ -27,7 +27,8 @@ is_slanted w h = not (w == 0) && (not (h == 0) && not (w == h))
 unfoldable pub piece_count : ℕ → ℕ → ℕ
 piece_count w h = if is_slanted w h then min 64 (max 1 (div_ceil (max w h) 400000)) else 1
 
--- the i-th of the places that cut the segment into k equal pieces, times k: the mean of its ends, exactly
+-- the i-th of the places that cut the segment from s to t into k equal pieces, times k, so that it is exact: the mean of
+-- the ends with the weights k - i and i
 unfoldable pub cut_at : Spot → Spot → ℕ → ℕ → Point
 cut_at s t k i =
     record {
@@ -64,10 +65,11 @@ in_units p = record { x = p.x; y = p.y; scale = 4 * p.scale; positive = fine p.s
 -- the length of the chord from a to b, rounded up: the least m with m * m at least dx * dx + dy * dy
 unfoldable pub chord_of : Point → Point → ℕ
 chord_of a b =
-    least_root (unsigned_abs (b.x -ℤ a.x) * unsigned_abs (b.x -ℤ a.x) + unsigned_abs (b.y -ℤ a.y) * unsigned_abs (b.y -ℤ a.y))
+    least_root
+    (unsigned_abs (b.x -ℤ a.x) * unsigned_abs (b.x -ℤ a.x) + unsigned_abs (b.y -ℤ a.y) * unsigned_abs (b.y -ℤ a.y))
     (unsigned_abs (b.x -ℤ a.x) + unsigned_abs (b.y -ℤ a.y))
 
--- an end given in nanometres, in halves
+-- a place given in nanometres, in halves
 abbrev pub in_halves : Point → Spot
 in_halves p = record { x = p.x +ℤ p.x; y = p.y +ℤ p.y }
 

@@ -1,13 +1,12 @@
 -- The laws of hulls that the crates above rest on.
-use Rattle.std.specs.Prelude.{◌≡◌, ℕ, ◌+◌, ◌*◌, ◌≤◌, ◌<◌, ◌↔◌, ◌⊎◌, false, true, ℤ, pos, ◌+ℤ◌, ◌-ℤ◌, ◌*ℤ◌, ◌≤ℤ◌, List, [], ◌∷◌, length, Any}
+use Rattle.std.specs.Prelude.{◌≡◌, ℕ, ◌*◌, ◌≤◌, ◌<◌, ◌↔◌, ◌⊎◌, false, true, ℤ, pos, ◌+ℤ◌, ◌-ℤ◌, ◌*ℤ◌, ◌≤ℤ◌, List, length, Any}
 use Rattle.std.specs.List.{All}
-use Rattle.std.specs.Int.RustNames.{unsigned_abs}
 use Rattle.std.proofs.Common.{lit≤}
 use Rattle.plane.specs.Plane.{PlanePoint, Bounds, Within, In, IsTight, box_of, grid_point, positive_product}
 use Rattle.grid_num.specs.declared.Point.{Point}
 use Rattle.touching.specs.Core.{Core, Spot, area, line, OnLine, InCore, InCopper}
-use Rattle.hulls.specs.Cells.{floor_of, ceil_of, cell_of, around}
-use Rattle.hulls.specs.Hulls.{hulls_of, edge_hulls_of, chord_of, corner, in_units}
+use Rattle.hulls.specs.Cells.{floor_of, ceil_of, around}
+use Rattle.hulls.specs.Hulls.{hulls_of, edge_hulls_of, chord_of, in_units}
 
 -- x / n rounded down is the greatest whole number of which n times is at most x
 abbrev pub FloorLaw : Type 0
@@ -51,7 +50,8 @@ spot p = record { x = p.x; y = p.y }
 
 -- every point of a board edge that is a segment is in one of its hulls
 abbrev pub SegmentLaw : Type 0
-SegmentLaw = (a b : Point) (p : PlanePoint) → OnLine (spot a) (spot b) p → InSome (edge_hulls_of a b false) (nm_in_units p)
+SegmentLaw =
+    (a b : Point) (p : PlanePoint) → OnLine (spot a) (spot b) p → InSome (edge_hulls_of a b false) (nm_in_units p)
 
 -- p is in the disc on the chord from a to b: at most half the chord's length away from its midpoint, squared and times 4
 unfoldable pub InChordDisc : Point → Point → PlanePoint → Type 0
@@ -84,4 +84,6 @@ OneHullLaw = (c : Core) (r : ℕ) → IsPad c → length (hulls_of c r) ≡ 1
 
 -- and it holds the places of its core, as its centre, with both coordinates rounded down
 abbrev pub CentreLaw : Type 0
-CentreLaw = (c : Core) (r : ℕ) (x y : ℤ) → IsPad c → InCore c (grid_point x y) → All (λ h. Within h (floor_of 4 x) (floor_of 4 y)) (hulls_of c r)
+CentreLaw =
+    (c : Core) (r : ℕ) (x y : ℤ) → IsPad c → InCore c (grid_point x y)
+    → All (λ h. Within h (floor_of 4 x) (floor_of 4 y)) (hulls_of c r)

@@ -8,3 +8,10 @@ pub mod OneFault
 pub mod Scaled
 pub mod Sorted
 pub mod LeastPair
+pub mod Sides
+pub mod Rising
+pub mod Octs
+pub mod Simple
+pub mod Frames
+pub mod Exchanged
+pub mod Wide

@@ -3,3 +3,5 @@ pub mod Side
 pub mod Faults
 pub mod Search
 pub mod Places
+pub mod Cuts
+pub mod Exchange

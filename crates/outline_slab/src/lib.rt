@@ -7,14 +7,22 @@ ghost use Rattle.std.specs.Prelude.{◌≡◌};
 ghost use Rattle.std.specs.List.{All};
 ghost use Rattle.plane.specs.Plane.{Bounds, PlanePoint, Within, In, IsOct};
 ghost use Rattle.outline_slab.specs.Rules.{IsSimple, IsWithin};
+ghost use Rattle.outline_slab.specs.Cuts.{IsNearby};
 
+#[cfg(test)]
+mod area_tests;
 mod covers;
 mod crossing;
+mod cuts;
 mod error;
+mod inside;
 pub mod laws;
 mod make;
 mod rows;
 mod side;
+mod slab_octs;
+mod slab_rows;
+mod sweep;
 #[cfg(test)]
 mod tests;
 
@@ -57,6 +65,7 @@ impl Outline {
         ensures holds { All (λ q. Within result q.x q.y) self.now }
         ensures least { (b : Bounds) (p : PlanePoint) → All (λ q. Within b q.x q.y) self.now → In result p → In b p }
         ensures oct { IsOct result }
+        ensures near { IsNearby result }
     {
         Oct::of_points(self.vertices.as_slice())
     }

@@ -9,9 +9,9 @@ ghost use Rattle.outline_slab.specs.Rules.{IsInSpan, IsWithin, IsEven, IsOnGrid,
 ghost use Rattle.outline_slab.specs.Faults.{IsFirstOff, IsCause};
 
 use crate::Outline;
-use crate::crossing::least_crossing;
 use crate::error::{OutlineError, OutlineFault};
 use crate::side::{both, side_at};
+use crate::sweep::least_pair;
 use grid_num::{Memory, Point};
 use std::alloc::Global;
 
@@ -32,7 +32,7 @@ impl Outline {
         if let Some(index) = first_off_angle(vertices) {
             return Err(OutlineError::Bad(OutlineFault::OffAngle { index }));
         }
-        if let Some((first, second)) = least_crossing(alloc, vertices)? {
+        if let Some((first, second)) = least_pair(alloc, vertices)? {
             return Err(OutlineError::Bad(OutlineFault::Crossing { first, second }));
         }
         Ok(Outline {

@@ -26,6 +26,14 @@ pub fn side_at(corners: &[Point], i: usize) -> Side
     ensures start { IsInSpan result.start }
     ensures finish { IsInSpan result.finish }
 {
+    edge_at(corners, i)
+}
+
+// The same for corners anywhere.
+pub fn edge_at(corners: &[Point], i: usize) -> Side
+    requires within { i < length corners.now }
+    ensures { edge_of result ≡ edge corners.now i }
+{
     let next = if i + 1 < corners.len() { i + 1 } else { 0 };
     Side {
         start: corners[i],

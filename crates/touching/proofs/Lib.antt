@@ -17,3 +17,5 @@ pub mod Sides
 pub mod AreaToLine
 pub mod Decided
 pub mod Nearest
+pub mod Least
+pub mod Shared

@@ -33,7 +33,7 @@ pub as_short : (a n : ℕ) (x y x1 y1 : ℤ) → x1 ≡ x → y1 ≡ y → IsSho
 as_short a n x y x1 y1 ex ey h = subst (λ (z : ℤ). IsShort a n z y1) (sym ex) (subst (λ (z : ℤ). IsShort a n x z) (sym ey) h)
 
 -- the squared length of a step times u
-scaled_square : (u : ℕ) (x y : ℤ) → inner (pos u *ℤ x) (pos u *ℤ y) (pos u *ℤ x) (pos u *ℤ y) ≡ pos (u * u) *ℤ inner x y x y
+pub scaled_square : (u : ℕ) (x y : ℤ) → inner (pos u *ℤ x) (pos u *ℤ y) (pos u *ℤ x) (pos u *ℤ y) ≡ pos (u * u) *ℤ inner x y x y
 scaled_square u x y = omega (arith, ints, swap4 (pos u) x (pos u) x, swap4 (pos u) y (pos u) y, mul_add (u * u) (x *ℤ x) (y *ℤ y))
 
 -- a step is short at a scale where one that is the same, k n times as long, is short at its scale

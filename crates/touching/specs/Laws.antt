@@ -1,7 +1,7 @@
 -- The laws of touching: what the decision decides, and where the least distance of two cores is.
-use Rattle.std.specs.Prelude.{◌≡◌, ℕ, ◌*◌, ◌⊎◌, ◌↔◌}
-use Rattle.plane.specs.Plane.{PlanePoint, grid_point}
-use Rattle.touching.specs.Core.{Spot, Core, area, line, OnLine, InCore, IsWhole, IsReached, Touches}
+use Rattle.std.specs.Prelude.{◌≡◌, ℕ, ◌+◌, ◌*◌, ◌⊎◌, ◌↔◌, pos, ◌*ℤ◌, ◌≤ℤ◌}
+use Rattle.plane.specs.Plane.{PlanePoint, grid_point, minus, scaled_dist_sq}
+use Rattle.touching.specs.Core.{Spot, Core, area, line, OnLine, InCore, IsWhole, IsReached, InCopper, Touches}
 use Rattle.touching.specs.Decision.{Side, start_of, end_of, AreClose}
 
 -- the decision on whole numbers holds exactly where the cores are within reach: of all their points, at every scale
@@ -11,6 +11,10 @@ DecisionLaw = (r : ℕ) (c d : Core) → IsWhole c → IsWhole d → AreClose (r
 -- touching has no order
 abbrev pub OrderLaw : Type 0
 OrderLaw = (r : ℕ) (c d : Core) → Touches r c d ↔ Touches r d c
+
+-- touching is what it says: two pieces of copper touch exactly where they have a point in common
+abbrev pub CopperLaw : Type 0
+CopperLaw = (a b : ℕ) (c d : Core) → Touches (a + b) c d ↔ ((p : PlanePoint) × InCopper c a p × InCopper d b p)
 
 -- some point is in both
 unfoldable pub AreMeeting : Core → Core → Type 0
@@ -42,3 +46,27 @@ abbrev pub DistanceLaw : Type 0
 DistanceLaw =
     (r : ℕ) (c d : Core) → IsWhole c → IsWhole d
     → Touches r c d ↔ (AreMeeting c d ⊎ (CornerReaches r c d ⊎ CornerReaches r d c))
+
+-- p and q are no farther apart than r and s: their squared distances, at a common scale
+unfoldable pub IsNoFarther : PlanePoint → PlanePoint → PlanePoint → PlanePoint → Type 0
+IsNoFarther p q r s =
+    (scaled_dist_sq p q *ℤ pos ((minus r s).scale * (minus r s).scale))
+    ≤ℤ (scaled_dist_sq r s *ℤ pos ((minus p q).scale * (minus p q).scale))
+
+-- a corner of c and a point of a side of d are no farther apart than p and q
+pub record CornerIsNoFarther (c d : Core) (p q : PlanePoint) : Type 0 where
+  pub corner : Spot
+  pub from : Spot
+  pub to : Spot
+  pub at : PlanePoint
+  pub is_corner : HasCorner c corner
+  pub is_side : HasSide d from to
+  pub on : OnLine from to at
+  pub no_farther : IsNoFarther (grid_point corner.x corner.y) at p q
+
+-- where the least distance of two cores is: they meet, or, whichever two points of them one takes, some corner of the one
+-- and some point of a side of the other are no farther apart
+abbrev pub LeastLaw : Type 0
+LeastLaw =
+    (c d : Core) (p q : PlanePoint) → IsWhole c → IsWhole d → InCore c p → InCore d q
+    → AreMeeting c d ⊎ (CornerIsNoFarther c d p q ⊎ CornerIsNoFarther d c p q)

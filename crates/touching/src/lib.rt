@@ -3,7 +3,7 @@
 //! A coordinate is half a nanometre.
 #![tactic(auto)]
 
-ghost use Rattle.touching.specs.Laws.{DecisionLaw, OrderLaw, DistanceLaw};
+ghost use Rattle.touching.specs.Laws.{DecisionLaw, OrderLaw, CopperLaw, DistanceLaw, LeastLaw};
 
 /// The decision on whole numbers holds for two cores exactly where some point of the one is within reach of some point of
 /// the other: lines, areas, and one of each.
@@ -20,4 +20,14 @@ pub fn order_law()
 /// of a point of a side of the other.
 pub fn distance_law()
     ensures { DistanceLaw }
+{}
+
+/// Two pieces of copper touch exactly where they have a point in common.
+pub fn copper_law()
+    ensures { CopperLaw }
+{}
+
+/// The least distance of two cores that do not meet is that of a corner of the one and a point of a side of the other.
+pub fn least_law()
+    ensures { LeastLaw }
 {}

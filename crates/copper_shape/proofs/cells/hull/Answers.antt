@@ -1,12 +1,5 @@
-use Rattle.std.proofs.Common.{sym, ◌∙◌, ap, arith, length}
-use Rattle.std.specs.List.{All}
-use Rattle.std.proofs.lemmas.Int.{ints}
-use Rattle.plane.specs.Plane.{Bounds, sum_of, ball_of}
-use Rattle.plane.specs.Narrow.{IsNearZero}
-use Rattle.grid_num.specs.declared.Point.{Point}
+use Rattle.std.proofs.Common.{◌∙◌}
 use Rattle.hulls.specs.Cells.{cells_of}
-use Rattle.hulls.specs.Hulls.{hull_of}
-use Rattle.cores.specs.Room.{IsInRoom}
 use Rattle.copper_shape.proofs.CellLists.{cells_near, cells_some, near_reach, hull_room, code_hull}
 use Rattle.copper_shape.proofs.cells.hull.Goals as goal
 

@@ -8,21 +8,21 @@ pub returns-then-edge-clause-core : goal.returns-then-edge-clause-core
 returns-then-edge-clause-core c =
     let e = c.args.edge.now in
     rw c.if-edge.true
-    (arc_core e.from e.to c.middle.result.x c.middle.result.y c.disc.result.core c.middle.ensures.x c.middle.ensures.y (ap (λ (z : Copper). z.core) c.disc.ensures))
+    (arc_core e.from e.to c.middle.result.x c.middle.result.y c.disc.result.core c.middle.ensures.x c.middle.ensures.y (ap (λ (z : Copper). z.core) c.disc.ensures.value))
 
 pub returns-then-edge-clause-radius : goal.returns-then-edge-clause-radius
 returns-then-edge-clause-radius c =
     let e = c.args.edge.now in
-    rw c.if-edge.true (ap (λ (z : Copper). z.radius) c.disc.ensures ∙ arc_radius e.from e.to c.chord.result c.chord.ensures.value)
+    rw c.if-edge.true (ap (λ (z : Copper). z.radius) c.disc.ensures.value ∙ arc_radius e.from e.to c.chord.result c.chord.ensures.value)
 
 pub returns-else-edge-clause-core : goal.returns-else-edge-clause-core
 returns-else-edge-clause-core c =
     let e = c.args.edge.now in
     rw c.if-edge.false
     (line_core e.from e.to (spot c.doubled.result) (spot c.doubled-else-edge.result) c.capsule.result.core
-    (ap spot c.doubled.ensures.value) (ap spot c.doubled-else-edge.ensures.value) (ap (λ (z : Copper). z.core) c.capsule.ensures))
+    (ap spot c.doubled.ensures.value) (ap spot c.doubled-else-edge.ensures.value) (ap (λ (z : Copper). z.core) c.capsule.ensures.value))
 
 pub returns-else-edge-clause-radius : goal.returns-else-edge-clause-radius
 returns-else-edge-clause-radius c =
     let e = c.args.edge.now in
-    rw c.if-edge.false (ap (λ (z : Copper). z.radius) c.capsule.ensures ∙ line_radius e.from e.to 0 refl)
+    rw c.if-edge.false (ap (λ (z : Copper). z.radius) c.capsule.ensures.value ∙ line_radius e.from e.to 0 refl)

@@ -5,5 +5,5 @@ use Rattle.copper_shape.proofs.tests.pads_are_made_of_cores_and_radii.Goals as g
 
 pub of_oct-piece-requires : goal.of_oct-piece-requires
 unfolding ball_of
-of_oct-piece-requires c =
+of_oct-piece-requires g c =
     rw c.ball.ensures (record { x_low = omega (arith, ints); x_high = omega (arith, ints); y_low = omega (arith, ints); y_high = omega (arith, ints) })

@@ -1,8 +1,16 @@
-use Rattle.std.proofs.Common.{rules}
-use Rattle.outline_slab.proofs.Chain.{edge_made}
+use Rattle.std.proofs.Common.{sym, subst, arith}
+use Rattle.covering.specs.Covering.{Edge}
+use Rattle.slabs.proofs.Outside.{ends_all}
+use Rattle.outline_slab.specs.Rules.{IsInSpan, no_edge}
+use Rattle.outline_slab.proofs.Chain.{edges_length}
 use Rattle.outline_slab.proofs.side.side_at.Goals as goal
-use Rattle.outline_slab.proofs.side.side_at.Goals.{then-i-corners, else-i-corners}
 
-pub returns-clause-edge : goal.returns-clause-edge
-returns-clause-edge c = edge_made c.args.corners.now c.args.i c.if-i-corners.next _ c.requires.within
-    (elim c.if-i-corners.branch [ then-i-corners w ↦ search rules | else-i-corners w ↦ search rules ])
+pub returns-clause-start : goal.returns-clause-start
+returns-clause-start c =
+    let n = edges_length c.args.corners.now in
+    subst (λ (e : Edge). IsInSpan e.start) (sym c.edge_at.ensures) (ends_all IsInSpan c.args.corners.now c.requires.span c.args.i no_edge (omega arith)).0
+
+pub returns-clause-finish : goal.returns-clause-finish
+returns-clause-finish c =
+    let n = edges_length c.args.corners.now in
+    subst (λ (e : Edge). IsInSpan e.finish) (sym c.edge_at.ensures) (ends_all IsInSpan c.args.corners.now c.requires.span c.args.i no_edge (omega arith)).1

@@ -1,0 +1,10 @@
+pub mod Unique
+pub mod BandRows
+pub mod OnBands
+pub mod Cells
+pub mod CellPoints
+pub mod OneBands
+pub mod Apart
+pub mod Brushed
+pub mod Counting
+pub mod OctCount

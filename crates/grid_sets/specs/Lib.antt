@@ -1,0 +1,5 @@
+pub mod Rows
+pub mod Bands
+pub mod Cells
+pub mod Points
+pub mod Laws

@@ -1,0 +1,20 @@
+use Rattle.std.proofs.Common.{ℕ, zero, suc, ◌<◌, arith, [], ◌∷◌, get_or}
+use Rattle.plane.specs.Plane.{Bounds, Within}
+use Rattle.grid_num.specs.declared.Point.{Point}
+use Rattle.outline_slab.specs.Side.{edge_of}
+use Rattle.outline_slab.proofs.Hulls.{hull_law}
+use Rattle.outline_slab.proofs.slab_octs.side_oct.Goals as goal
+
+both : (a b : Point) (c : Bounds) → Within c a.x a.y → Within c b.x b.y → (k : ℕ) (d : Point) → k < 2 → Within c (get_or (a ∷ b ∷ []) k d).x (get_or (a ∷ b ∷ []) k d).y
+both a b c h g zero d l = h
+both a b c h g (suc zero) d l = g
+both a b c h g (suc (suc k)) d l = absurd (omega arith)
+
+pub returns-clause-points : goal.returns-clause-points
+returns-clause-points c =
+    hull_law (edge_of c.args.side) c.of_points.result c.requires.octilinear
+    (record {
+      start = c.of_points.ensures.holds 0 c.args.side.start (omega arith);
+      finish = c.of_points.ensures.holds 1 c.args.side.start (omega arith);
+      least = λ b p s f i. c.of_points.ensures.least b p (λ k d l. both c.args.side.start c.args.side.finish b s f k d (omega arith)) i;
+    })

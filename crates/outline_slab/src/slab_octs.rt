@@ -1,0 +1,89 @@
+// The octagons of slabs: between the first cut of a slab and the second, the third and the fourth, ..
+ghost use Rattle.std.specs.Prelude.{◌≡◌, ◌⊎◌, ◌↔◌, IfOk};
+ghost use Rattle.std.specs.List.{All};
+ghost use Rattle.plane.specs.Plane.{PlanePoint, In, IsOct};
+ghost use Rattle.covering.specs.Covering.{IsOn, Covers};
+ghost use Rattle.covering.specs.Edges.{IsOctilinear};
+ghost use Rattle.slabs.specs.Slabs.{IsAmid, IsInPair, IsOnLevel, AreClosed, starts};
+ghost use Rattle.outline_slab.specs.Side.{edge_of};
+ghost use Rattle.outline_slab.specs.Cuts.{all_edges, IsReached, IsSound, AreTwo, ArePaired, IsInSome};
+
+use crate::cuts::{cuts_of, in_order};
+use crate::side::Side;
+use crate::slab_rows::rows_of_ends;
+use grid_num::Memory;
+use octagon::Oct;
+use std::alloc::Global;
+
+// The octagon from one cut to the other, in one slab.
+fn amid(left: Side, right: Side) -> Oct
+    requires { AreTwo (edge_of left) (edge_of right) }
+    ensures points { (p : PlanePoint) → In result p ↔ IsAmid (edge_of left) (edge_of right) p }
+    ensures oct { IsOct result }
+{
+    Oct::of_points(&[left.start, right.start, left.finish, right.finish])
+}
+
+// The octagons of all pairs.
+fn pair_octs(alloc: Global, cuts: &[Side]) -> Result<Vec<Oct>, Memory>
+    requires { ArePaired (all_edges cuts.now) }
+    ensures points { IfOk result (λ v. (p : PlanePoint) → IsInSome v.items p ↔ IsInPair (all_edges cuts.now) p) }
+    ensures octs { IfOk result (λ v. All IsOct v.items) }
+{
+    let pairs = cuts.len() / 2;
+    let mut octs = Vec::with_capacity(alloc, pairs)?;
+    'pair: for j in 0..pairs {
+        octs.push(amid(cuts[2 * j], cuts[2 * j + 1]))?;
+    }
+    Ok(octs)
+}
+
+// The octagon of the points of a side.
+fn side_oct(side: Side) -> Oct
+    requires { IsSound (edge_of side) }
+    ensures points { (p : PlanePoint) → In result p ↔ IsOn (edge_of side) p }
+    ensures oct { IsOct result }
+{
+    Oct::of_points(&[side.start, side.finish])
+}
+
+// The octagons with that of a side, if the side is level.
+fn with_level(side: Side, octs: Vec<Oct>) -> Result<Vec<Oct>, Memory>
+    requires sound { IsSound (edge_of side) }
+    requires octs { All IsOct octs.items }
+    ensures points { IfOk result (λ v. (p : PlanePoint) → IsInSome v.items p ↔ (IsInSome octs.items p ⊎ ((side.start.y ≡ side.finish.y) × IsOn (edge_of side) p))) }
+    ensures octs { IfOk result (λ v. All IsOct v.items) }
+{
+    let mut octs = octs;
+    if side.start.y != side.finish.y {
+        return Ok(octs);
+    }
+    octs.push(side_oct(side))?;
+    Ok(octs)
+}
+
+// The octagons with those of the level sides.
+fn with_levels(sides: &[Side], octs: Vec<Oct>) -> Result<Vec<Oct>, Memory>
+    requires sound { All IsSound (all_edges sides.now) }
+    requires octs { All IsOct octs.items }
+    ensures points { IfOk result (λ v. (p : PlanePoint) → IsInSome v.items p ↔ (IsInSome octs.items p ⊎ IsOnLevel (all_edges sides.now) p)) }
+    ensures octs { IfOk result (λ v. All IsOct v.items) }
+{
+    let mut octs = octs;
+    'each: for i in 0..sides.len() {
+        octs = with_level(sides[i], octs)?;
+    }
+    Ok(octs)
+}
+
+/// Octagons of just the points that closed sides cover.
+pub fn covered_octs(alloc: Global, sides: &[Side]) -> Result<Vec<Oct>, Memory>
+    requires closed { AreClosed (starts (all_edges sides.now)) (all_edges sides.now) }
+    requires sound { All IsSound (all_edges sides.now) }
+    ensures points { IfOk result (λ v. (p : PlanePoint) → IsInSome v.items p ↔ Covers (all_edges sides.now) p) }
+    ensures octs { IfOk result (λ v. All IsOct v.items) }
+{
+    let rows = rows_of_ends(alloc, sides)?;
+    let cuts = in_order(cuts_of(alloc, &rows, sides)?)?;
+    with_levels(sides, pair_octs(alloc, &cuts)?)
+}

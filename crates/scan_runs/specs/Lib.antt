@@ -1,0 +1,6 @@
+pub mod Lines
+pub mod Merge
+pub mod Ends
+pub mod Parts
+pub mod Places
+pub mod Strips

@@ -1,0 +1,65 @@
+// What an octagon is on a stretch of rows.
+ghost use Rattle.std.specs.Prelude.{ℕ, ◌^◌, ◌≤◌, pos, ◌+ℤ◌, ◌≤ℤ◌};
+ghost use Rattle.plane.specs.Narrow.{IsNearZero};
+ghost use Rattle.scan_runs.specs.Ends.{IsLeftFor};
+ghost use Rattle.scan_runs.specs.Parts.{IsPart};
+
+use crate::ends::{left_of, right_of};
+use grid_sets::{End, Slant};
+use octagon::Oct;
+
+// What an octagon is on a stretch of rows.
+#[derive(Clone, Copy)]
+pub(crate) enum Part {
+    Absent,
+    Along(Slant),
+    Bent,
+}
+
+// What the octagon is on the rows.
+pub(crate) fn part_of(o: &Oct, top: i64, more: u64) -> Part
+    requires top { IsNearZero (2 ^ 40) top }
+    requires more { more ≤ 2 ^ 41 }
+    ensures { IsPart o.now top more result }
+{
+    let bottom = top + more as i64;
+    let y0 = o.y0();
+    let y1 = o.y1();
+    if y1 < top {
+        return Part::Absent;
+    }
+    if bottom < y0 {
+        return Part::Absent;
+    }
+    if top < y0 {
+        return Part::Bent;
+    }
+    if y1 < bottom {
+        return Part::Bent;
+    }
+    let x0 = o.x0();
+    let s0 = o.s0();
+    let d0 = o.d0();
+    match left_of(x0, s0, d0, top, more) {
+        None => Part::Bent,
+        Some(from) => ended(o, top, more, from),
+    }
+}
+
+// What the octagon is, whose runs begin at the end.
+fn ended(o: &Oct, top: i64, more: u64, from: End) -> Part
+    requires top { IsNearZero (2 ^ 40) top }
+    requires more { more ≤ 2 ^ 41 }
+    requires high { o.now.y0 ≤ℤ top }
+    requires low { (top +ℤ pos more) ≤ℤ o.now.y1 }
+    requires from { IsLeftFor o.now.x0 o.now.s0 o.now.d0 top more from }
+    ensures { IsPart o.now top more result }
+{
+    let x1 = o.x1();
+    let s1 = o.s1();
+    let d1 = o.d1();
+    match right_of(x1, s1, d1, top, more) {
+        None => Part::Bent,
+        Some(to) => Part::Along(Slant { from, to }),
+    }
+}

@@ -1,0 +1,11 @@
+pub mod At
+pub mod Below
+pub mod Order
+pub mod Pairs
+pub mod Marks
+pub mod Closed
+pub mod Law
+pub mod Cutting
+pub mod Amid
+pub mod Outside
+pub mod Framed
