@@ -1,2 +1,3 @@
 pub mod Sides
 pub mod Products
+pub mod Lists

@@ -1,5 +1,5 @@
 // How wide an arc is.
-ghost use Rattle.std.specs.Prelude.{◌≡◌, ◌+ℤ◌, ◌-ℤ◌, ◌*ℤ◌};
+ghost use Rattle.std.specs.Prelude.{◌≡◌, pos, ◌+ℤ◌, ◌-ℤ◌, ◌*ℤ◌, int_lt};
 ghost use Rattle.grid_num.specs.Length.{IsInRange};
 ghost use Rattle.plane.specs.Narrow.{IsNearZero};
 ghost use Rattle.board_language.specs.Edges.{is_wide};
@@ -28,7 +28,8 @@ fn product(a: i64, b: i64) -> i128
 fn inner(ax: i64, ay: i64, bx: i64, by: i64) -> i128
     requires a { IsNearZero 1000000000 ax × IsNearZero 1000000000 ay }
     requires b { IsNearZero 1000000000 bx × IsNearZero 1000000000 by }
-    ensures { result ≡ ax *ℤ bx +ℤ ay *ℤ by }
+    ensures value { result ≡ ax *ℤ bx +ℤ ay *ℤ by }
+    ensures range { IsNearZero 2000000000000000000 result }
 {
     product(ax, bx) + product(ay, by)
 }
@@ -41,10 +42,16 @@ pub fn is_wide(a: Point, m: Point, b: Point) -> bool
     requires b { IsInRange b.x × IsInRange b.y }
     ensures { result ≡ is_wide a m b }
 {
-    inner(
+    is_positive(inner(
         apart(m.x, a.x),
         apart(m.y, a.y),
         apart(m.x, b.x),
         apart(m.y, b.y),
-    ) > 0
+    ))
+}
+
+fn is_positive(z: i128) -> bool
+    ensures { result ≡ int_lt (pos 0) z }
+{
+    z > 0
 }
