@@ -7,7 +7,6 @@ use mir.Syntax.{w128}
 use Rattle.plane.specs.Narrow.{IsNearZero}
 use Rattle.grid_num.specs.Length.{IsInRange}
 
-
 product_near : (m : ℕ) (a b : ℤ) → IsNearZero m a → IsNearZero m b → IsNearZero (m * m) (a *ℤ b)
 product_near m a b h k = by_signs a b h k
   where

@@ -67,7 +67,11 @@ pub fn lacks_points(alloc: Global, item: &Part<'_>) -> Result<bool, Memory>
         EdgeForm::Line => Ok(lacks_point(item, b"start") || lacks_point(item, b"end")),
         EdgeForm::Rectangle => Ok(lacks_point(item, b"start") || lacks_point(item, b"end")),
         EdgeForm::Arc => {
-            Ok(lacks_point(item, b"start") || lacks_point(item, b"mid") || lacks_point(item, b"end"))
+            Ok(
+                lacks_point(item, b"start")
+                    || lacks_point(item, b"mid")
+                    || lacks_point(item, b"end"),
+            )
         }
         EdgeForm::Polygon => lacks_corner(alloc, item),
         EdgeForm::Other => Ok(false),

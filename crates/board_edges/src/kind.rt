@@ -9,7 +9,9 @@ ghost use Rattle.board_items.specs.Known.{context};
 
 use crate::form::{corner_lists, edge_fault, form_of, lacks_points};
 use crate::wide::is_wide;
-use board_items::{Known, first_kind, has_other_point, is_on_copper, is_on_edge, number_kind, when};
+use board_items::{
+    Known, first_kind, has_other_point, is_on_copper, is_on_edge, number_kind, when,
+};
 use board_language::{EdgeForm, OffenceKind};
 use board_parts::Part;
 use grid_num::{Memory, NumFault};
@@ -83,7 +85,12 @@ fn fault_of_edge(edge: bool, fault: Option<NumFault>) -> Option<NumFault>
 ///
 /// Want of memory.
 #[tactic(auto, unfolding(board_language::specs::Offences::drawing_kind))]
-pub fn drawing_kind(alloc: Global, known: &Known, item: &Part<'_>, many: bool) -> Result<Option<OffenceKind>, Memory>
+pub fn drawing_kind(
+    alloc: Global,
+    known: &Known,
+    item: &Part<'_>,
+    many: bool,
+) -> Result<Option<OffenceKind>, Memory>
     ensures { IfOk result (λ k. k ≡ drawing_kind (context item.now.bytes known.now) item.now.item many) }
 {
     let copper = is_on_copper(alloc, item)?;
@@ -106,7 +113,11 @@ pub fn drawing_kind(alloc: Global, known: &Known, item: &Part<'_>, many: bool) -
 ///
 /// Want of memory.
 #[tactic(auto, unfolding(board_language::specs::Offences::footprint_drawing_kind))]
-pub fn footprint_drawing_kind(alloc: Global, known: &Known, item: &Part<'_>) -> Result<Option<OffenceKind>, Memory>
+pub fn footprint_drawing_kind(
+    alloc: Global,
+    known: &Known,
+    item: &Part<'_>,
+) -> Result<Option<OffenceKind>, Memory>
     ensures { IfOk result (λ k. k ≡ footprint_drawing_kind (context item.now.bytes known.now) item.now.item) }
 {
     let copper = is_on_copper(alloc, item)?;

@@ -10,6 +10,9 @@ mod numbers;
 mod points;
 mod root;
 mod sizes;
+mod stack;
+#[cfg(test)]
+mod tests;
 mod tests_of;
 mod thing;
 mod track;
@@ -21,6 +24,7 @@ pub use numbers::Numbers;
 pub use points::{has_other_point, has_short_point, points_fault, points_of};
 pub use root::{board_kind, declared_net, net_kind, stamp_in};
 pub use sizes::{is_no_length, is_no_size, size_of};
+pub use stack::{is_between, is_layer, layer_fault, name_of_layer};
 pub use tests_of::{first_kind, number_kind, when};
 pub use thing::{Own, Thing, thing_in_footprint, thing_on_board};
 pub use track::{

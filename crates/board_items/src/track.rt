@@ -1,16 +1,15 @@
 // Tracks and vias.
 ghost use Rattle.std.specs.Prelude.{◌≡◌, ℕ, ◌≤◌, ◌∷◌, [], ◌||◌, not, nat_lt, length, map, codes, IfOk};
 ghost use Rattle.board_language.specs.Items.{line_of, is_unknown_net, net_of};
-ghost use Rattle.board_language.specs.Tracks.{track_of, track_fault, via_of, via_fault, layer_names, name_at};
+ghost use Rattle.board_language.specs.Tracks.{track_of, track_fault, via_of, via_with, via_fault, layer_names, name_at};
 ghost use Rattle.board_language.specs.Offences.{lacks, has_short, track_lacks, via_lacks, has_bad_size, track_kind, via_kind};
-
 ghost use Rattle.board_items.specs.Known.{context};
 
 use crate::Known;
 use crate::lists::{has_short, lacks};
 use crate::sizes::{is_no_size, size_of};
 use crate::tests_of::{first_kind, number_kind, when};
-use board_language::{OffenceKind, Track};
+use board_language::{OffenceKind, Track, Via};
 use board_parts::{Part, first_of};
 use grid_num::{Memory, NumFault};
 use std::alloc::Global;
@@ -134,7 +133,13 @@ pub fn is_unknown_net(alloc: Global, known: &Known, item: &Part<'_>) -> Result<b
 ///
 /// Want of memory.
 #[tactic(auto, unfolding(board_language::specs::Offences::track_kind))]
-pub fn track_kind(alloc: Global, known: &Known, item: &Part<'_>, double: bool, many: bool) -> Result<Option<OffenceKind>, Memory>
+pub fn track_kind(
+    alloc: Global,
+    known: &Known,
+    item: &Part<'_>,
+    double: bool,
+    many: bool,
+) -> Result<Option<OffenceKind>, Memory>
     ensures { IfOk result (λ k. k ≡ track_kind (context item.now.bytes known.now) item.now.item double many) }
 {
     let lacks = track_lacks(alloc, item)?;
@@ -160,7 +165,13 @@ pub fn track_kind(alloc: Global, known: &Known, item: &Part<'_>, double: bool, m
 ///
 /// Want of memory.
 #[tactic(auto, unfolding(board_language::specs::Offences::via_kind))]
-pub fn via_kind(alloc: Global, known: &Known, item: &Part<'_>, double: bool, many: bool) -> Result<Option<OffenceKind>, Memory>
+pub fn via_kind(
+    alloc: Global,
+    known: &Known,
+    item: &Part<'_>,
+    double: bool,
+    many: bool,
+) -> Result<Option<OffenceKind>, Memory>
     ensures { IfOk result (λ k. k ≡ via_kind (context item.now.bytes known.now) item.now.item double many) }
 {
     let lacks = via_lacks(alloc, item)?;
@@ -198,6 +209,26 @@ pub fn track_of(alloc: Global, known: &Known, item: &Part<'_>, line: u64) -> Res
         to: item.point_in(alloc, b"end")?,
         width: size_of(width),
         layer: known.copper.number(name_at(&names, 0)),
+        net: item.whole_in(alloc, b"net")?,
+        span: item.span(),
+        line,
+    })
+}
+
+/// The via that is read of an item on this line, but for its layers.
+///
+/// # Errors
+///
+/// Want of memory.
+fn via_in(alloc: Global, item: &Part<'_>, layers: u32, line: u64) -> Result<Via, Memory>
+    requires line { line ≡ line_of item.now.bytes item.now.item.from }
+    ensures { IfOk result (λ v. v ≡ via_with item.now.bytes layers item.now.item) }
+{
+    let size = item.length_in(alloc, b"size")?;
+    Ok(Via {
+        at: item.point_in(alloc, b"at")?,
+        size: size_of(size),
+        layers,
         net: item.whole_in(alloc, b"net")?,
         span: item.span(),
         line,

@@ -47,17 +47,20 @@ track_fault bytes item =
 abbrev pub via_layer : List ℕ → ℕ → Item → Name
 via_layer bytes place item = name_at place (layer_names bytes (codes "layers") item)
 
+abbrev pub via_with : List ℕ → ℕ → Item → Via
+via_with bytes layers item =
+    record {
+      at = point_in bytes (codes "at") item;
+      size = size_of (length_in bytes (codes "size") item);
+      layers = layers;
+      net = net_of bytes item;
+      span = span_of item;
+      line = line_of bytes item.from;
+    }
+
 -- a via has copper on all layers from the one that it names to the other, in the board's order
 unfoldable pub via_of : Context → Item → Via
-via_of c item =
-    record {
-      at = point_in c.bytes (codes "at") item;
-      size = size_of (length_in c.bytes (codes "size") item);
-      layers = layers_between c.copper (via_layer c.bytes 0 item) (via_layer c.bytes 1 item);
-      net = net_of c.bytes item;
-      span = span_of item;
-      line = line_of c.bytes item.from;
-    }
+via_of c item = via_with c.bytes (layers_between c.copper (via_layer c.bytes 0 item) (via_layer c.bytes 1 item)) item
 
 unfoldable pub via_fault : List ℕ → Item → Option NumFault
 via_fault bytes item =

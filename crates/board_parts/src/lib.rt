@@ -6,6 +6,8 @@
 mod list;
 mod number;
 mod part;
+#[cfg(test)]
+mod tests;
 mod text;
 
 pub use number::{first_of, length_fault, length_of, whole_fault, whole_number};
