@@ -1,10 +1,8 @@
 -- What is asked of a polygon's points, as parts of one text, is asked of its lists.
-use Rattle.std.proofs.Common.{◌≡◌, ℕ, ◌∙◌, List, [], ◌∷◌, map, Bool, refl, sym, ap, not, ◌||◌, Option, Some}
+use Rattle.std.proofs.Common.{◌≡◌, ℕ, ◌∙◌, List, [], ◌∷◌, map, Bool, refl, ap, not, ◌||◌, Some}
 use Rattle.std.specs.Prelude.{codes}
 use Rattle.std.specs.List.{list_any}
 use Rattle.std.proofs.lemmas.Simd.{map-map}
-use Rattle.grid_num.specs.declared.Point.{Point}
-use Rattle.grid_num.specs.declared.read.NumFault.{NumFault}
 use Rattle.sexpr_text.specs.Items.{Item, is_headed}
 use Rattle.text_items.specs.Parts.{Part, part_of}
 use Rattle.board_language.specs.Numbers.{first_of, point_fault, is_short}

@@ -4,19 +4,18 @@
 --     (gr_rect (start 0 0) (end 10 5) (layer "Edge.Cuts"))
 --     (gr_arc (start 0 2) (mid 0.6 0.6) (end 2 0) (layer "Edge.Cuts"))
 --     (gr_poly (pts (xy 0 0) (xy 10 0) (xy 10 5)) (layer "Edge.Cuts"))
-use Rattle.std.specs.Prelude.{ℕ, Bool, true, false, not, ◌&&◌, ◌||◌, int_lt, if◌then◌else◌, List, [], ◌∷◌, ◌++◌, map, flat_map, length, codes, is_some, slice_index_or, Option, None, Some, ℤ, pos, ◌+ℤ◌, ◌-ℤ◌, ◌*ℤ◌}
+use Rattle.std.specs.Prelude.{ℕ, Bool, true, false, not, ◌&&◌, ◌||◌, int_lt, if◌then◌else◌, List, [], ◌∷◌, map, codes, is_some, slice_index_or, Option, Some, pos, ◌+ℤ◌, ◌-ℤ◌, ◌*ℤ◌}
 use Rattle.std.specs.List.{list_any}
 use Rattle.grid_num.specs.declared.Point.{Point}
 use Rattle.grid_num.specs.declared.read.NumFault.{NumFault}
 use Rattle.sexpr_text.specs.Items.{Item, is_headed}
-use Rattle.board_fields.specs.Lists.{lists_of}
 use Rattle.board_language.specs.Fields.{list_of, has_list, head_begins}
 use Rattle.board_language.specs.Numbers.{first_of, point_fault, is_short}
 use Rattle.board_language.specs.Layers.{is_drawn_on, is_edge_name, is_copper}
 use Rattle.copper_shape.specs.declared.edge.Edge.{Edge}
 use Rattle.board_language.specs.declared.EdgeForm.{EdgeForm}
 use Rattle.board_language.specs.declared.EdgeForm.TheVariants.{Line, Rectangle, Arc, Polygon, Other}
-use Rattle.board_language.specs.Items.{Context, point_at, point_in}
+use Rattle.board_language.specs.Items.{point_at, point_in}
 use Rattle.board_language.specs.Zones.{lists_in}
 
 -- what kind of edge a drawing is

@@ -1,6 +1,6 @@
 -- What stands in an item of a board: its lists by their heads, and the words and strings behind its head by their
 -- places, which count from 0. Of two lists with the same head the first counts.
-use Rattle.std.specs.Prelude.{ℕ, Bool, true, false, cond, ◌&&◌, not, ◌==◌, is_some, List, [], length, find, filter_map, nat_eq, slice_get, slice_range, Option, None, Some, option_and_then}
+use Rattle.std.specs.Prelude.{ℕ, Bool, false, cond, is_some, List, [], find, filter_map, nat_eq, slice_get, slice_range, Option, None, Some, option_and_then}
 use Rattle.std.specs.List.{list_any, starts_with}
 use Rattle.std.specs.Str.{bytes_eq}
 use Rattle.sexpr_text.specs.Items.{Item, children_of, content_of, head_of, is_headed}

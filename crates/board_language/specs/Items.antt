@@ -1,14 +1,13 @@
 -- What all kinds of items have in common: points, nets, stamps, lines, sizes.
-use Rattle.std.specs.Prelude.{ℕ, zero, suc, ◌+◌, ◌-◌, Bool, true, false, not, ◌&&◌, ◌||◌, ◌==◌, nat_lt, nat_le, if◌then◌else◌, List, [], ◌∷◌, take, codes, count_by, filter_map, slice_index, Option, None, Some, ℤ, pos, negsuc, option_and_then, option_map}
+use Rattle.std.specs.Prelude.{ℕ, zero, suc, ◌-◌, Bool, true, false, not, ◌&&◌, ◌||◌, ◌==◌, nat_lt, if◌then◌else◌, List, take, codes, count_by, filter_map, slice_index, Option, ℤ, pos, negsuc, option_and_then, option_map}
 use Rattle.std.specs.List.{list_any}
 use Rattle.grid_num.specs.declared.Point.{Point}
-use Rattle.grid_num.specs.Spelling.{number}
 use Rattle.sexpr_text.specs.Grammar.{is_space}
 use Rattle.sexpr_text.specs.Items.{Item}
 use Rattle.sexpr_text.specs.declared.Span.{Span}
 use Rattle.board_fields.specs.Lists.{headed}
 use Rattle.board_language.specs.Fields.{list_of, text_at}
-use Rattle.board_language.specs.Numbers.{whole_number, whole_fault, length_at, value_at}
+use Rattle.board_language.specs.Numbers.{whole_number, length_at, value_at}
 
 -- what holds for the whole board: its bytes, its copper layers in their order, and its nets
 pub record Context : Type 0 where

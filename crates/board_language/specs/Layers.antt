@@ -1,11 +1,11 @@
 -- Layers: which a board declares, which are of copper, and which a list of layers names.
-use Rattle.std.specs.Prelude.{ℕ, zero, suc, ◌+◌, ◌*◌, Bool, true, false, not, ◌&&◌, ◌||◌, ◌==◌, nat_eq, nat_le, nat_lt, cond, is_some, if◌then◌else◌, List, [], ◌∷◌, map, filter, filter_map, flat_map, length, codes, Option, None, Some}
+use Rattle.std.specs.Prelude.{ℕ, zero, suc, ◌+◌, ◌*◌, Bool, false, not, ◌&&◌, ◌||◌, ◌==◌, nat_eq, nat_le, cond, if◌then◌else◌, List, [], ◌∷◌, map, filter, filter_map, flat_map, length, codes, Option, None, Some}
 use Rattle.std.specs.List.{ends_with, list_any, prefix_len}
 use Rattle.std.specs.Str.{bytes_eq}
-use Rattle.sexpr_text.specs.Items.{Item, children_of}
-use Rattle.board_fields.specs.Lists.{is_list, is_string, lists_of}
+use Rattle.sexpr_text.specs.Items.{Item}
+use Rattle.board_fields.specs.Lists.{is_list, is_string}
 use Rattle.board_fields.specs.Values.{behind_head}
-use Rattle.board_language.specs.Fields.{list_of, text_of, text_at, texts_of}
+use Rattle.board_language.specs.Fields.{list_of, text_at, texts_of}
 
 abbrev pub Name : Type 0
 Name = List ℕ

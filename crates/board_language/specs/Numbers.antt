@@ -1,5 +1,5 @@
 -- The numbers of a board: what a text spells, what is wrong with one that spells none, and which texts are wanted.
-use Rattle.std.specs.Prelude.{ℕ, ◌+◌, ◌-◌, ◌^◌, ◌/◌, ◌%◌, Bool, true, false, not, ◌&&◌, ◌||◌, ◌==◌, nat_lt, nat_le, if◌then◌else◌, List, [], ◌∷◌, ◌++◌, length, take, drop, zip, slice_index_or, slice_get, Option, None, Some, ℤ, pos, option_and_then}
+use Rattle.std.specs.Prelude.{ℕ, ◌+◌, ◌-◌, ◌^◌, ◌/◌, ◌%◌, Bool, true, false, not, ◌&&◌, ◌||◌, ◌==◌, nat_lt, nat_le, if◌then◌else◌, List, [], ◌∷◌, ◌++◌, length, take, drop, slice_get, Option, None, Some, ℤ, pos}
 use Rattle.std.specs.List.{list_all}
 use Rattle.std.specs.Char.{is_ascii_digit}
 use Rattle.std.specs.Option.{option_or}
@@ -10,7 +10,7 @@ use Rattle.grid_num.specs.declared.read.NumFault.{NumFault}
 use Rattle.grid_num.specs.declared.read.NumFault.TheVariants.{NotANumber, TooFine, OutOfRange}
 use Rattle.sexpr_text.specs.Items.{Item}
 use Rattle.board_fields.specs.Values.{behind_head}
-use Rattle.board_language.specs.Fields.{list_of, text_of, text_at}
+use Rattle.board_language.specs.Fields.{text_of, text_at}
 
 abbrev pub are_zeros : List ℕ → Bool
 are_zeros digits = list_all (λ digit. digit == 48) digits

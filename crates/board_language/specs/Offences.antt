@@ -1,12 +1,11 @@
 -- What offends in an item, by what the item is. An item is tried with what holds for the whole board and with the items
 -- before it in the file.
-use Rattle.std.specs.Prelude.{◌≡◌, ◌≢◌, ◌⊎◌, ℕ, ◌<◌, ◌≤◌, Bool, true, false, not, ◌&&◌, ◌||◌, ◌==◌, nat_lt, cond, is_none, IsTrue, List, [], ◌∷◌, map, filter, filter_map, flat_map, length, codes, slice_get, Option, None, Some, ℤ, pos, int_lt, option_map}
-use Rattle.std.specs.List.{list_any, list_all, Any}
+use Rattle.std.specs.Prelude.{◌≡◌, ℕ, Bool, true, false, not, ◌&&◌, ◌||◌, nat_lt, cond, is_none, List, [], ◌∷◌, map, filter, filter_map, length, codes, slice_get, Option, None, Some, ℤ, pos, int_lt, option_map}
+use Rattle.std.specs.List.{list_any}
 use Rattle.std.specs.Str.{bytes_eq}
 use Rattle.grid_num.specs.declared.read.NumFault.{NumFault}
 use Rattle.sexpr_text.specs.Items.{Item, is_headed, children_of}
 use Rattle.board_fields.specs.Lists.{headed}
-use Rattle.board_fields.specs.Values.{behind_head}
 use Rattle.outline_slab.specs.declared.error.OutlineFault.{OutlineFault}
 use Rattle.outline_slab.specs.Faults as outlines
 use Rattle.outline_slab.specs.Rules.{IsOutline}
@@ -19,7 +18,7 @@ use Rattle.board_language.specs.Numbers.{is_decimal, is_zero, whole_fault, whole
 use Rattle.board_language.specs.Layers.{Name, is_among, has_double, is_copper, layers_in, name_of_layer, has_unknown, is_edge_name, is_drawn_on}
 use Rattle.board_language.specs.Things.{Placed, Thing, Board, Layers, Net, Track, CurvedTrack, Via, Footprint, RuleArea, Zone, Drawing, Pad, FootprintDrawing, FootprintZone, Other, thing_of}
 use Rattle.board_language.specs.Items.{Context, size_of, is_no_length, is_no_size, is_bad_length, length_in, whole_in, net_of, declared_net, has_number, is_unknown_net, stamp_in}
-use Rattle.board_language.specs.Tracks.{layer_names, name_at, track_layer, via_layer, track_fault, via_fault}
+use Rattle.board_language.specs.Tracks.{layer_names, track_layer, via_layer, track_fault, via_fault}
 use Rattle.board_language.specs.Pads.{is_type, is_shape, is_read_pad, has_read_pad, turns_at, drill_of, drill_width, drill_height, ratio_in, bridge_list, pad_fault, footprint_fault, is_hole}
 use Rattle.board_language.specs.Zones as zones
 use Rattle.board_language.specs.Edges.{is_edge, is_on_copper, is_curved, lacks_points, edge_fault}

@@ -4,7 +4,7 @@
 --       (pad "1" thru_hole circle (at 0 0 90) (size 2 2) (drill 1) (layers "*.Cu") (net 1 "GND")))
 --
 -- A pad's place is that in the unturned footprint; its angle is already the whole one.
-use Rattle.std.specs.Prelude.{ℕ, ◌+◌, ◌-◌, ◌*◌, ◌/◌, ◌^◌, min, max, Bool, true, false, not, ◌&&◌, ◌||◌, ◌==◌, ◌%◌, nat_lt, cond, if◌then◌else◌, List, [], ◌∷◌, map, take, filter, find, codes, is_some, slice_get, unwrap_or, Option, None, Some, ℤ, pos, neg_ℤ, ◌+ℤ◌, ◌-ℤ◌, ◌*ℤ◌, option_map, option_and_then}
+use Rattle.std.specs.Prelude.{ℕ, ◌-◌, ◌*◌, ◌/◌, ◌^◌, min, max, Bool, false, not, ◌||◌, ◌==◌, ◌%◌, nat_lt, cond, if◌then◌else◌, List, [], ◌∷◌, map, take, filter, find, codes, slice_get, unwrap_or, Option, None, Some, ℤ, pos, neg_ℤ, ◌+ℤ◌, ◌-ℤ◌, option_map, option_and_then}
 use Rattle.std.specs.Option.{option_or}
 use Rattle.std.specs.List.{list_any}
 use Rattle.std.specs.Str.{bytes_eq}
@@ -21,7 +21,7 @@ use Rattle.board_language.specs.declared.PadKind.{PadKind}
 use Rattle.board_language.specs.declared.PadKind.TheVariants.{Plated, Surface, Hole}
 use Rattle.board_language.specs.declared.Join.{Join}
 use Rattle.board_language.specs.declared.Join.TheVariants.{Thermal, Solid, Apart, PlatedThermal}
-use Rattle.board_language.specs.Fields.{list_of, text_of, text_at, says_at}
+use Rattle.board_language.specs.Fields.{list_of, text_of, says_at}
 use Rattle.board_language.specs.Numbers.{first_of, item_fault, length_fault, point_fault, length_fault_at, whole_fault_at, ratio_fault_at, read_or, length_of, length_at, ratio_of, whole_number, value_at, quarter_turns}
 use Rattle.board_language.specs.Layers.{has_copper, layer_set}
 use Rattle.copper_shape.specs.Shapes.{Copper}

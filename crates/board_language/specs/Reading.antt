@@ -1,5 +1,5 @@
 -- The board that a text's tree spells, and the first offence in it.
-use Rattle.std.specs.Prelude.{◌≡◌, ℕ, ◌<◌, Bool, true, false, cond, List, [], ◌∷◌, ◌++◌, filter_map, flat_map, Option, None, Some}
+use Rattle.std.specs.Prelude.{◌≡◌, ℕ, cond, List, [], ◌∷◌, ◌++◌, filter_map, flat_map, Option, None, Some}
 use Rattle.sexpr_text.specs.Items.{Item}
 use Rattle.board_language.specs.declared.offence.OffenceKind.{OffenceKind}
 use Rattle.board_language.specs.Layers.{copper_layers}

@@ -1,6 +1,6 @@
 -- The items of a board in the order of the file, and what each of them is: the board itself, each list in it, and each
 -- list in a footprint.
-use Rattle.std.specs.Prelude.{ℕ, Bool, true, false, ◌||◌, cond, if◌then◌else◌, List, [], ◌∷◌, ◌++◌, map, flat_map, codes}
+use Rattle.std.specs.Prelude.{ℕ, Bool, ◌||◌, cond, if◌then◌else◌, List, [], ◌∷◌, map, flat_map, codes}
 use Rattle.sexpr_text.specs.Items.{Item, is_headed}
 use Rattle.board_fields.specs.Lists.{lists_of}
 use Rattle.board_language.specs.Fields.{head_begins, has_list}

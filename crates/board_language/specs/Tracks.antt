@@ -2,7 +2,7 @@
 --
 --     (segment (start 0 0) (end 5 0) (width 0.25) (layer "F.Cu") (net 1) (tstamp ..))
 --     (via (at 5 0) (size 0.6) (drill 0.3) (layers "F.Cu" "B.Cu") (net 1) (tstamp ..))
-use Rattle.std.specs.Prelude.{ℕ, List, [], ◌∷◌, ◌++◌, codes, slice_get, unwrap_or, Option}
+use Rattle.std.specs.Prelude.{ℕ, List, [], ◌∷◌, codes, slice_get, unwrap_or, Option}
 use Rattle.grid_num.specs.declared.read.NumFault.{NumFault}
 use Rattle.sexpr_text.specs.Items.{Item}
 use Rattle.board_language.specs.Fields.{list_of}

@@ -8,18 +8,17 @@
 --       (filled_polygon (layer "F.Cu") (pts ..)))
 --
 -- A `zone` with a `keepout` is a rule area, of which the layers and the outline are read.
-use Rattle.std.specs.Prelude.{ℕ, Bool, true, false, not, ◌&&◌, ◌||◌, ◌==◌, if◌then◌else◌, List, [], ◌∷◌, ◌++◌, map, filter, filter_map, flat_map, find, codes, unwrap_or, Option, None, Some, ℤ, pos, option_map, option_and_then}
-use Rattle.std.specs.Option.{option_or}
+use Rattle.std.specs.Prelude.{ℕ, Bool, ◌&&◌, ◌||◌, ◌==◌, if◌then◌else◌, List, [], ◌∷◌, map, filter, find, codes, unwrap_or, Option, None, Some, ℤ, pos, option_map}
 use Rattle.std.specs.Str.{bytes_eq}
 use Rattle.std.specs.Int.{int_div_euclid}
 use Rattle.grid_num.specs.declared.Point.{Point}
 use Rattle.grid_num.specs.declared.read.NumFault.{NumFault}
 use Rattle.sexpr_text.specs.Items.{Item, is_headed}
 use Rattle.sexpr_text.specs.declared.Span.{Span}
-use Rattle.board_fields.specs.Lists.{lists_of, headed}
+use Rattle.board_fields.specs.Lists.{lists_of}
 use Rattle.board_language.specs.declared.Join.{Join}
 use Rattle.board_language.specs.declared.Join.TheVariants.{Thermal, Solid, Apart, PlatedThermal}
-use Rattle.board_language.specs.Fields.{list_of, list_in, has_list, says_at, texts_of, passes}
+use Rattle.board_language.specs.Fields.{list_of, list_in, says_at, texts_of, passes}
 use Rattle.board_language.specs.Numbers.{first_of, point_fault, length_fault_at, whole_fault_at, value_at, length_of, whole_number}
 use Rattle.board_language.specs.Layers.{has_copper, layer_set}
 use Rattle.board_language.specs.declared.board.Zone.{Zone}

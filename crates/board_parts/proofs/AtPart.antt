@@ -1,5 +1,5 @@
 -- What holds of the item that a node is, holds of the item that is built from the node.
-use Rattle.std.proofs.Common.{◌≡◌, ℕ, zero, suc, ◌+◌, ◌<◌, List, [], ◌∷◌, length, map, get_or, refl, sym, ap, ◌∙◌, arith, Option, Some, None, option_map, find, Bool, true, false, cond, ◌⊎◌, inl, inr, slice_range, nat_eq}
+use Rattle.std.proofs.Common.{◌≡◌, ℕ, zero, suc, ◌<◌, List, [], ◌∷◌, length, get_or, refl, sym, ap, ◌∙◌, arith, Option, Some, None, option_map, find, Bool, false, cond, ◌⊎◌, inl, inr, slice_range, nat_eq}
 use Rattle.std.specs.Str.{bytes_eq}
 use Rattle.std.specs.List.{starts_with}
 use Rattle.sexpr_text.specs.Items.{Item, children_of, content_of, head_of, is_headed, is_name}
@@ -9,7 +9,7 @@ use Rattle.sexpr_text.specs.declared.NodeKind.TheVariants as kinds
 use Rattle.board_fields.specs.Lists.{is_list_kind}
 use Rattle.board_language.specs.Fields.{list_of, text_of, text_from, head_begins}
 use Rattle.sexpr_text.specs.Flat.{Shown, IsNode, AreNodes, IsNodeOrNone}
-use Rattle.text_items.specs.Parts.{IsPart, Part, part_of, item_at}
+use Rattle.text_items.specs.Parts.{IsPart, part_of, item_at}
 use Rattle.text_items.proofs.ItemAt.{item_is, is_node_at}
 
 pub at_part : {P : Item → Type 0} (bytes : List ℕ) (nodes : List Shown) (id : ℕ) → IsPart bytes nodes id → ((item : Item) → IsNode nodes id item → P item) → P (item_at nodes id)

@@ -1,5 +1,5 @@
 -- The item that is built from the nodes is the item that the node is.
-use Rattle.std.proofs.Common.{◌≡◌, ℕ, zero, suc, ◌+◌, ◌<◌, ◌≤◌, List, [], ◌∷◌, length, map, refl, sym, ap, ◌∙◌, subst, arith, Some, slice_get}
+use Rattle.std.proofs.Common.{◌≡◌, ℕ, zero, suc, ◌+◌, ◌<◌, ◌≤◌, List, [], ◌∷◌, length, map, refl, sym, ap, ◌∙◌, subst, arith}
 use Rattle.sexpr_text.specs.Grammar.{Forest}
 use Rattle.sexpr_text.specs.Grammar.Forest.{Nil, Word, Text, Group}
 use Rattle.sexpr_text.specs.Items.{Item, IsLeafKind, items_of, alone}
@@ -10,7 +10,7 @@ use Rattle.sexpr_text.proofs.Steps.{length-flat}
 use Rattle.sexpr_text.proofs.Nodes.{Found, found, lie_nodes, node_at, node_below, children_nodes}
 use Rattle.sexpr_text.specs.declared.NodeKind.{NodeKind}
 use Rattle.sexpr_text.specs.declared.NodeKind.TheVariants as kinds
-use Rattle.text_items.specs.Parts.{forest_at, item_at, put}
+use Rattle.text_items.specs.Parts.{forest_at, item_at}
 
 -- items whose nodes are these are built from them
 built : (n : ℕ) (nodes : List Shown) (ids : List ℕ) (f : Forest) → count f ≤ n → AreNodes nodes ids (items_of f) → forest_at n nodes ids ≡ f

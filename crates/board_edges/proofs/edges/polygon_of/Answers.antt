@@ -1,5 +1,5 @@
-use Rattle.std.proofs.Common.{◌∙◌, ap}
-use Rattle.board_language.specs.Edges.{corner_lists, sides_of}
+use Rattle.std.proofs.Common.{◌∙◌}
+use Rattle.board_language.specs.Edges.{corner_lists}
 use Rattle.board_edges.proofs.Lists.{points_are}
 use Rattle.board_edges.proofs.edges.polygon_of.Goals as goal
 

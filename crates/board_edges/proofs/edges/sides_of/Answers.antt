@@ -1,4 +1,4 @@
-use Rattle.std.proofs.Common.{◌≡◌, ◌∙◌, ◌++◌, ◌<◌, ap, sym, get_or, length, arith, pos}
+use Rattle.std.proofs.Common.{◌∙◌, ◌++◌, ◌<◌, ap, sym, get_or, length, arith, pos}
 use Rattle.grid_num.specs.declared.Point.{Point}
 use Rattle.board_language.specs.Edges.{sides_to, sides_of}
 use Rattle.board_parts.proofs.Walks.{get_same}

@@ -1,5 +1,5 @@
-use Rattle.std.proofs.Common.{◌≡◌, ◌∙◌, ap}
-use Rattle.std.specs.Prelude.{ℤ, ◌*ℤ◌}
+use Rattle.std.proofs.Common.{◌≡◌}
+use Rattle.std.specs.Prelude.{◌*ℤ◌}
 use Rattle.board_edges.proofs.Products.{sum_is, sum_range, read64}
 use Rattle.board_edges.proofs.wide.inner.Goals as goal
 

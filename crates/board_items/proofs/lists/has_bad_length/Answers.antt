@@ -1,4 +1,4 @@
-use Rattle.std.proofs.Common.{◌≡◌, ◌∙◌, ap, sym, not, true, false}
+use Rattle.std.proofs.Common.{◌∙◌, sym, true, false}
 use Rattle.std.specs.List.{list_any}
 use Rattle.board_language.specs.Fields.{list_of}
 use Rattle.board_language.specs.Items.{is_bad_length}

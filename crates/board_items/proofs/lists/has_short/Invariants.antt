@@ -1,4 +1,4 @@
-use Rattle.std.proofs.Common.{◌≡◌, not, drop}
+use Rattle.std.proofs.Common.{◌≡◌, drop}
 use Rattle.std.specs.List.{list_any}
 use Rattle.board_language.specs.Fields.{list_of}
 use Rattle.board_language.specs.Numbers.{is_short}

@@ -1,4 +1,4 @@
-use Rattle.std.proofs.Common.{◌≡◌, not, drop, Some}
+use Rattle.std.proofs.Common.{◌≡◌, not, drop}
 use Rattle.std.specs.Prelude.{codes}
 use Rattle.std.specs.List.{list_any}
 use Rattle.sexpr_text.specs.Items.{is_headed}

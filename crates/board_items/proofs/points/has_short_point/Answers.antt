@@ -1,8 +1,7 @@
-use Rattle.std.proofs.Common.{◌≡◌, ◌∙◌, ap, sym, not, true, false, Some}
-use Rattle.std.specs.Prelude.{codes}
+use Rattle.std.proofs.Common.{◌∙◌, sym, Some}
 use Rattle.std.specs.List.{list_any}
 use Rattle.board_language.specs.Numbers.{is_short}
-use Rattle.board_parts.proofs.Walks.{any_here, any_next, any_none, any_of_map, get_same}
+use Rattle.board_parts.proofs.Walks.{any_here, any_next, any_none, get_same}
 use Rattle.board_items.proofs.points.has_short_point.Goals as goal
 
 pub returns-then-is_short : goal.returns-then-is_short

@@ -1,5 +1,4 @@
-use Rattle.std.proofs.Common.{◌≡◌, not, drop, Some}
-use Rattle.std.specs.Prelude.{codes}
+use Rattle.std.proofs.Common.{◌≡◌, drop, Some}
 use Rattle.std.specs.List.{list_any}
 use Rattle.board_language.specs.Numbers.{is_short}
 use Rattle.board_items.proofs.points.has_short_point.Given as goal

@@ -1,4 +1,4 @@
-use Rattle.std.proofs.Common.{◌≡◌, ◌∙◌, sym, map, Some}
+use Rattle.std.proofs.Common.{◌∙◌, sym, map, Some}
 use Rattle.board_language.specs.Numbers.{first_of, point_fault}
 use Rattle.board_parts.proofs.Walks.{get_same}
 use Rattle.board_items.proofs.Faults.{first_here, first_next, first_none}

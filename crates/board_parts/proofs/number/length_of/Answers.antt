@@ -1,4 +1,4 @@
-use Rattle.std.proofs.Common.{◌≡◌, ◌∙◌, ℤ, sym, rules}
+use Rattle.std.proofs.Common.{◌≡◌, ◌∙◌, rules}
 use Rattle.board_language.specs.Numbers.{length_of}
 use Rattle.board_language.proofs.Lengths.{length_is, zero_is}
 use Rattle.board_parts.proofs.number.length_of.Goals as goal

@@ -1,4 +1,4 @@
-use Rattle.std.proofs.Common.{◌≡◌, ◌<◌, ◌∙◌, ℕ, List, length, arith, sym, subst, rules, Fits, w64}
+use Rattle.std.proofs.Common.{◌≡◌, ◌<◌, ℕ, List, length, arith, sym, subst, rules}
 use Rattle.sexpr_text.specs.Items.{Item, children_of}
 use Rattle.sexpr_text.specs.Flat.{Shown, IsNode, AreNodes}
 use Rattle.text_items.specs.Parts.{Part, IsPart, part_of, item_at}

@@ -1,4 +1,4 @@
-use Rattle.std.proofs.Common.{◌≡◌, ◌≤◌, ◌++◌, map, filter_map, drop}
+use Rattle.std.proofs.Common.{◌≡◌, ◌++◌, map, filter_map, drop}
 use Rattle.sexpr_text.specs.Items.{children_of}
 use Rattle.board_language.specs.Fields.{text_of, texts_of}
 use Rattle.board_parts.proofs.part.Part.texts.Given as goal
