@@ -1,0 +1,67 @@
+//! The rules of the fill: which points a zone's copper takes, given the board and the fills of higher rank.
+//! The crates above use the definitions of `specs/` and the laws that the functions here state; nothing here runs.
+//! Places and octagons are units of the grid (2 nm), lengths of the board nanometres, cores and radii of copper halves.
+#![tactic(auto)]
+
+ghost use Rattle.fill_rules.specs.Laws.{NearLaw, ClearLaw, RankingLaw, FrameLaw, KeptLaw, ComponentLaw, WholeLaw, TogetherLaw, FillLaw, FillFrameLaw, SpokeFrameLaw, ListLaw, OneLaw, ReachLaw, CleanLaw, SameLaw, PartsLaw, DistanceLaw};
+
+/// Points that are near at a need are near at a greater one, so what keeps a need keeps each lesser one.
+pub fn near_law()
+    ensures points { NearLaw }
+    ensures clear { ClearLaw }
+{}
+
+/// The list of tasks has each task once, in rank order.
+pub fn ranking_law()
+    ensures { RankingLaw }
+{}
+
+/// What an outline covers lies in the outline's frame.
+pub fn frame_law()
+    ensures { FrameLaw }
+{}
+
+/// Kept centres are allowed. A component has allowed centres alone, and each one that is linked to it; it is kept or left
+/// out as a whole.
+pub fn component_law()
+    ensures kept { KeptLaw }
+    ensures allowed { ComponentLaw }
+    ensures whole { WholeLaw }
+    ensures together { TogetherLaw }
+{}
+
+/// Each fill meets the rules over the fills above it; it lies in the frame of its outline, and so do its live spokes.
+pub fn fill_law()
+    ensures rules { FillLaw }
+    ensures frame { FillFrameLaw }
+    ensures spokes { SpokeFrameLaw }
+{}
+
+/// Lists that meet the rules one after another cover the fills, so there is at most one list of fills.
+pub fn list_law()
+    ensures fills { ListLaw }
+    ensures one { OneLaw }
+{}
+
+/// A higher task that does not reach a task changes nothing in its fill.
+pub fn reach_law()
+    ensures { ReachLaw }
+{}
+
+/// A task that no edit dirties, directly or from a task above it whose pieces changed, is made of the same centres and
+/// spokes as before, and then it has the fill that it had.
+pub fn clean_law()
+    ensures made { CleanLaw }
+    ensures fill { SameLaw }
+{}
+
+/// Pieces have one label exactly where they are in one part.
+pub fn parts_law()
+    ensures { PartsLaw }
+{}
+
+/// What is not near, at a need, to any point of the copper round a place is at least the need and the copper's radius away from
+/// the place.
+pub fn distance_law()
+    ensures { DistanceLaw }
+{}
