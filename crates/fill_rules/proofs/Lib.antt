@@ -3,5 +3,10 @@ pub mod Same
 pub mod Fills
 pub mod Laws
 pub mod Limit
+pub mod Heights
+pub mod Framed
+pub mod Reach
+pub mod Dirty
 pub mod Lists
 pub mod Ranking
+pub mod Distance
