@@ -10,3 +10,6 @@ pub mod Dirty
 pub mod Lists
 pub mod Ranking
 pub mod Distance
+pub mod InWords
+pub mod Anchors
+pub mod Kept

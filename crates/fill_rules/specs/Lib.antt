@@ -10,4 +10,5 @@ pub mod Dirty
 pub mod Lists
 pub mod Ranking
 pub mod Distance
+pub mod InWords
 pub mod Laws

@@ -86,14 +86,14 @@ role_of_kind Surface r = r
 abbrev pub role : Settings → Pad → Role
 role z p = role_of_kind p.kind (role_of_net z p)
 
--- the pad stands on the layer; a bare hole stands on every layer
+-- a pad stands on the layers where it has copper, a bare hole on every layer
+abbrev pub stands : PadKind → Bool → Bool
+stands Hole copper = true
+stands Plated copper = copper
+stands Surface copper = copper
+
 abbrev pub is_on : ℕ → Pad → Bool
-is_on l p = on_by p.kind
-  where
-    on_by : PadKind → Bool
-    on_by Hole = true
-    on_by Plated = has_layer p.layers l
-    on_by Surface = has_layer p.layers l
+is_on l p = stands p.kind (has_layer p.layers l)
 
 -- the hulls of a pad's copper: just one for every pad that is read
 unfoldable pub pad_hulls : Pad → List Bounds

@@ -3,12 +3,33 @@
 //! Places and octagons are units of the grid (2 nm), lengths of the board nanometres, cores and radii of copper halves.
 #![tactic(auto)]
 
+ghost use Rattle.fill_rules.specs.InWords.{ForeignLaw, UnitsLaw, ItemNeedLaw, ZoneNeedLaw, AnchorsLaw, SpokesLaw, GapLaw, CopperKeptLaw, EdgeKeptLaw, ArcKeptLaw, ZoneKeptLaw};
 ghost use Rattle.fill_rules.specs.Laws.{NearLaw, ClearLaw, RankingLaw, FrameLaw, KeptLaw, ComponentLaw, WholeLaw, TogetherLaw, FillLaw, FillFrameLaw, SpokeFrameLaw, ListLaw, OneLaw, ReachLaw, CleanLaw, SameLaw, PartsLaw, DistanceLaw};
 
 /// Points that are near at a need are near at a greater one, so what keeps a need keeps each lesser one.
 pub fn near_law()
     ensures points { NearLaw }
     ensures clear { ClearLaw }
+{}
+
+/// Copper is foreign where the nets differ or there is none. Of the clearances the greatest counts; a distance in units is
+/// the least that is no less than the nanometres.
+pub fn need_law()
+    ensures foreign { ForeignLaw }
+    ensures units { UnitsLaw }
+    ensures item { ItemNeedLaw }
+    ensures zone { ZoneNeedLaw }
+{}
+
+/// The anchors of a zone are the copper of its net's solid pads, vias and tracks on the layer; without a net it has none.
+pub fn anchors_law()
+    ensures { AnchorsLaw }
+{}
+
+/// The four spokes of a pad lead east, south, west and north, and a gap is never nothing.
+pub fn spokes_law()
+    ensures spokes { SpokesLaw }
+    ensures gap { GapLaw }
 {}
 
 /// The list of tasks has each task once, in rank order.
@@ -64,4 +85,13 @@ pub fn parts_law()
 /// the place.
 pub fn distance_law()
     ensures { DistanceLaw }
+{}
+
+/// Each point of a fill keeps the need from each point of foreign copper, of holes and of pads that are not to be joined, of
+/// the board's edge, and of the fills of foreign zones above it.
+pub fn clearance_law()
+    ensures copper { CopperKeptLaw }
+    ensures edge { EdgeKeptLaw }
+    ensures arc { ArcKeptLaw }
+    ensures zones { ZoneKeptLaw }
 {}
