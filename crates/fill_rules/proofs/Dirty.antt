@@ -1,6 +1,6 @@
 -- A fill depends only on its zone's settings and on what is near its frame.
 use Rattle.std.proofs.Common.{arith, zero, suc, ◌≡◌, refl, sym, ◌∙◌, ap, subst, ℕ, ◌<◌, ◌⊎◌, inl, inr, List}
-use Rattle.std.specs.Prelude.{true, flat_map}
+use Rattle.std.specs.Prelude.{true, flat_map, map, [], ◌∷◌, ◌++◌}
 use Rattle.plane.specs.Plane.{PlanePoint, Bounds, In, ball_of, moved, IsNear, AreNear, IsMeeting}
 use Rattle.classes.specs.Classes.{IsOneOf}
 use Rattle.classes.proofs.Reaching.{reaches_map, reaches_self, reaches_then, reaches_link, reaches_keeps}
@@ -18,7 +18,7 @@ use Rattle.fill_rules.specs.Anchors.{IsTouching, IsWithinEdges}
 use Rattle.fill_rules.specs.Reach.{IsReaching}
 use Rattle.fill_rules.specs.Fill.{Fills, brush_at, Fits, IsClear, IsAllowed, IsLinked, IsLive, IsAnchored, IsKept, InFill, fill_of}
 use Rattle.fill_rules.specs.Sound.{IsSound}
-use Rattle.fill_rules.specs.Dirty.{IsLike, IsFollowed, IsDirty, IsSameFill, IsSameMade, IsUntouched, Spreads}
+use Rattle.fill_rules.specs.Dirty.{unlined, IsLike, IsFollowed, IsDirty, IsSameFill, IsSameMade, IsUntouched, Spreads}
 use Rattle.fill_rules.proofs.Same.{IsUsed}
 use Rattle.fill_rules.proofs.Reach.{InFrame, fits_in_frame, fill_in_frame}
 use Rattle.fill_rules.proofs.Fills.{fills_meet}
@@ -33,15 +33,37 @@ brush_like : (b d : Board) (i k : ℕ) → IsLike b d i k → (c : Point) → br
 unfolding brush_at
 brush_like b d i k e c = ap (λ (z : Settings). moved (ball_of (brush_radius z)) c.x c.y) e.zone
 
+-- what is said of each pad, whatever its line, is said of both boards' pads
+flat_unlined : {X : Type 0} (f : Pad → List X) → ((p : Pad) → f (unlined p) ≡ f p) → (ps : List Pad) → flat_map f ps ≡ flat_map f (map unlined ps)
+flat_unlined f h [] = refl
+flat_unlined {X} f h (p ∷ ps) =
+    ap (λ (x : List X). f p ++ x) (flat_unlined f h ps) ∙ ap (λ (x : List X). x ++ flat_map f (map unlined ps)) (sym (h p))
+
+pads_like : {X : Type 0} (f : Settings → ℕ → Pad → List X) → ((z : Settings) (l : ℕ) (p : Pad) → f z l (unlined p) ≡ f z l p)
+    → (b d : Board) (i k : ℕ) → IsLike b d i k → flat_map (f (zone_at b i) (layer_at b i)) b.pads ≡ flat_map (f (zone_at d k) (layer_at d k)) d.pads
+pads_like {X} f h b d i k e =
+    flat_unlined (f (zone_at b i) (layer_at b i)) (h (zone_at b i) (layer_at b i)) b.pads
+    ∙ (same3 (λ (ps : List Pad) (z : Settings) (l : ℕ). flat_map (f z l) ps) (map unlined b.pads) (map unlined d.pads) (zone_at b i) (zone_at d k) (layer_at b i) (layer_at d k) e.pads e.zone e.layer
+    ∙ sym (flat_unlined (f (zone_at d k) (layer_at d k)) (h (zone_at d k) (layer_at d k)) d.pads))
+
+unlined_spokes : (z : Settings) (l : ℕ) (p : Pad) → when (is_thermal z l (unlined p)) (pad_spokes z (unlined p)) ≡ when (is_thermal z l p) (pad_spokes z p)
+unfolding pad_spokes pad_hulls
+unlined_spokes z l p = refl
+
+unlined_gaps : (z : Settings) (l : ℕ) (p : Pad)
+    → when (is_thermal z l (unlined p)) (at_need (gap_of z (unlined p)) (pad_hulls (unlined p))) ≡ when (is_thermal z l p) (at_need (gap_of z p) (pad_hulls p))
+unfolding pad_hulls
+unlined_gaps z l p = refl
+
 spokes_like : (b d : Board) (i k : ℕ) → IsLike b d i k → spokes_of b (zone_at b i) (layer_at b i) ≡ spokes_of d (zone_at d k) (layer_at d k)
 unfolding spokes_of
 spokes_like b d i k e =
-    same3 (λ (ps : List Pad) (z : Settings) (l : ℕ). flat_map (λ (p : Pad). when (is_thermal z l p) (pad_spokes z p)) ps) b.pads d.pads (zone_at b i) (zone_at d k) (layer_at b i) (layer_at d k) e.pads e.zone e.layer
+    pads_like (λ (z : Settings) (l : ℕ) (p : Pad). when (is_thermal z l p) (pad_spokes z p)) unlined_spokes b d i k e
 
 thermal_like : (b d : Board) (i k : ℕ) → IsLike b d i k → thermal_needs b (zone_at b i) (layer_at b i) ≡ thermal_needs d (zone_at d k) (layer_at d k)
 unfolding thermal_needs
 thermal_like b d i k e =
-    same3 (λ (ps : List Pad) (z : Settings) (l : ℕ). flat_map (λ (p : Pad). when (is_thermal z l p) (at_need (gap_of z p) (pad_hulls p))) ps) b.pads d.pads (zone_at b i) (zone_at d k) (layer_at b i) (layer_at d k) e.pads e.zone e.layer
+    pads_like (λ (z : Settings) (l : ℕ) (p : Pad). when (is_thermal z l p) (at_need (gap_of z p) (pad_hulls p))) unlined_gaps b d i k e
 
 fits_like : (b d : Board) (i k : ℕ) → IsLike b d i k → (o : Bounds) → Fits b i o → Fits d k o
 fits_like b d i k e o f = record {

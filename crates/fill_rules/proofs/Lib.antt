@@ -13,3 +13,4 @@ pub mod Distance
 pub mod InWords
 pub mod Anchors
 pub mod Kept
+pub mod Sound

@@ -1,10 +1,11 @@
 -- What of two boards a fill depends on, and the dirty set.
-use Rattle.std.specs.Prelude.{◌≡◌, ◌↔◌, ℕ}
+use Rattle.std.specs.Prelude.{◌≡◌, ◌↔◌, ℕ, map}
 use Rattle.plane.specs.Plane.{PlanePoint, Bounds, In, AreNear}
 use Rattle.classes.specs.Classes.{Reaches, IsOneOf}
 use Rattle.grid_num.specs.declared.Point.{Point}
 use Rattle.copper_shape.specs.Shapes.{Copper}
 use Rattle.hulls.specs.Cells.{around}
+use Rattle.board_language.specs.declared.board.Pad.{Pad}
 use Rattle.board_language.specs.Board.{Board}
 use Rattle.fill_rules.specs.Tasks.{zone_at, layer_at}
 use Rattle.fill_rules.specs.Needs.{zone_need, Need, item_needs}
@@ -12,11 +13,27 @@ use Rattle.fill_rules.specs.Anchors.{anchors_of, IsTouching}
 use Rattle.fill_rules.specs.Reach.{IsReaching}
 use Rattle.fill_rules.specs.Fill.{Fills, IsKept, IsLive}
 
--- the tasks of rank i and k of the two boards are of one zone and layer, among the same pads, areas and edges
+-- a pad, whatever line of the file it stands on: an edit elsewhere moves lines
+abbrev pub unlined : Pad → Pad
+unlined p =
+    record {
+      shape = p.shape;
+      at = p.at;
+      layers = p.layers;
+      net = p.net;
+      kind = p.kind;
+      clearance = p.clearance;
+      join = p.join;
+      gap = p.gap;
+      bridge = p.bridge;
+      line = 0;
+    }
+
+-- the tasks of rank i and k of the two boards have the same settings and layer, among the same pads, areas and edges
 pub record IsLike (b d : Board) (i k : ℕ) : Type 0 where
   pub zone : zone_at b i ≡ zone_at d k
   pub layer : layer_at b i ≡ layer_at d k
-  pub pads : b.pads ≡ d.pads
+  pub pads : map unlined b.pads ≡ map unlined d.pads
   pub areas : b.areas ≡ d.areas
   pub edges : b.edges ≡ d.edges
 

@@ -7,6 +7,7 @@ use Rattle.hulls.specs.Cells.{around}
 use Rattle.classes.specs.Classes.{Reaches, IsOneOf}
 use Rattle.board_language.specs.Board.{Board}
 use Rattle.fill_rules.specs.Tasks.{ranked, zone_at, layer_at}
+use Rattle.fill_rules.specs.Reach.{IsReaching}
 use Rattle.fill_rules.specs.Fill.{brush_at, IsAllowed, IsLinked, IsLive, IsKept, InFill, fills_below, fill_of, reaching}
 use Rattle.fill_rules.specs.Parts.{AreParts, IsOnePart}
 use Rattle.fill_rules.specs.Sound.{IsSound}
@@ -77,6 +78,12 @@ OneLaw =
 -- a higher task that doesn't reach a task changes nothing in its fill
 abbrev pub ReachLaw : Type 0
 ReachLaw = (b : Board) → IsSound b → (i : ℕ) (p : PlanePoint) → fill_of b i p ↔ InFill b (reaching b (fill_of b) i) i p
+
+-- and what a task reaches ranks below it, on its layer, for a zone that is foreign to its own
+abbrev pub ReachedLaw : Type 0
+ReachedLaw =
+    (b : Board) (j i : ℕ) → IsReaching b j i
+    → (j < i) × (layer_at b j ≡ layer_at b i) × (((zone_at b j).net ≡ (zone_at b i).net → ⊥) ⊎ ((zone_at b j).net ≡ 0))
 
 -- A task that no edit dirties, directly or from a task above it whose pieces changed, is made of the same centres and
 -- spokes as before. `old` tells each task's rank before, `direct` which tasks an edit dirties directly, and `changed`

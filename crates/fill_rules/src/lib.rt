@@ -4,7 +4,8 @@
 #![tactic(auto)]
 
 ghost use Rattle.fill_rules.specs.InWords.{ForeignLaw, UnitsLaw, ItemNeedLaw, ZoneNeedLaw, AnchorsLaw, SpokesLaw, GapLaw, CopperKeptLaw, EdgeKeptLaw, ArcKeptLaw, ZoneKeptLaw};
-ghost use Rattle.fill_rules.specs.Laws.{NearLaw, ClearLaw, RankingLaw, FrameLaw, KeptLaw, ComponentLaw, WholeLaw, TogetherLaw, FillLaw, FillFrameLaw, SpokeFrameLaw, ListLaw, OneLaw, ReachLaw, CleanLaw, SameLaw, PartsLaw, DistanceLaw};
+ghost use Rattle.fill_rules.specs.Sound.{SoundLaw};
+ghost use Rattle.fill_rules.specs.Laws.{NearLaw, ClearLaw, RankingLaw, FrameLaw, KeptLaw, ComponentLaw, WholeLaw, TogetherLaw, FillLaw, FillFrameLaw, SpokeFrameLaw, ListLaw, OneLaw, ReachLaw, ReachedLaw, CleanLaw, SameLaw, PartsLaw, DistanceLaw};
 
 /// Points that are near at a need are near at a greater one, so what keeps a need keeps each lesser one.
 pub fn near_law()
@@ -51,6 +52,11 @@ pub fn component_law()
     ensures together { TogetherLaw }
 {}
 
+/// A board is sound where its zones are at least 0.001 mm thick and each pad's copper has a pad's core with the centre in it.
+pub fn sound_law()
+    ensures { SoundLaw }
+{}
+
 /// Each fill meets the rules over the fills above it; it lies in the frame of its outline, and so do its live spokes.
 pub fn fill_law()
     ensures rules { FillLaw }
@@ -64,9 +70,11 @@ pub fn list_law()
     ensures one { OneLaw }
 {}
 
-/// A higher task that does not reach a task changes nothing in its fill.
+/// A higher task that does not reach a task changes nothing in its fill; a task reaches only what ranks below it on its layer,
+/// for a foreign zone.
 pub fn reach_law()
-    ensures { ReachLaw }
+    ensures fill { ReachLaw }
+    ensures reached { ReachedLaw }
 {}
 
 /// A task that no edit dirties, directly or from a task above it whose pieces changed, is made of the same centres and
