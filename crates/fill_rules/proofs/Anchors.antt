@@ -19,7 +19,7 @@ use Rattle.fill_rules.specs.Anchors.{is_joined, pad_anchors, via_anchors, track_
 use Rattle.fill_rules.specs.InWords.{ForeignLaw, IsSolidPad, IsAnchor, AnchorsLaw}
 use Rattle.fill_rules.proofs.Members.{one_of_append, append_left, append_right, one_of_flat, flat_one_of, when_is, is_when}
 
-eq_true : (a b : ℕ) → (a == b) ≡ true → a ≡ b
+pub eq_true : (a b : ℕ) → (a == b) ≡ true → a ≡ b
 eq_true a b e = grind (arith, nat_tests)
 
 eq_false : (a b : ℕ) → (a == b) ≡ false → a ≡ b → ⊥
