@@ -1,5 +1,5 @@
 -- A task that no track or via which came or went dirties is untouched.
-use Rattle.std.proofs.Common.{◌≡◌, refl, sym, ◌∙◌, ap, subst, ℕ, ◌+◌, ◌*◌, ◌≤◌, ◌<◌, ◌⊎◌, inl, inr, mul_comm, arith, List, length, map}
+use Rattle.std.proofs.Common.{◌≡◌, refl, sym, ◌∙◌, ap, subst, ℕ, ◌+◌, ◌*◌, ◌≤◌, ◌<◌, inl, inr, mul_comm, arith, List, map}
 use Rattle.std.specs.Prelude.{ℤ, max, pos, ◌*ℤ◌, ◌-ℤ◌, true, ◌&&◌, ◌==◌, flat_map}
 use Rattle.std.specs.Int.RustNames.{unsigned_abs}
 use Rattle.std.proofs.lemmas.Int.{ints}
@@ -9,7 +9,7 @@ use Rattle.plane.proofs.Near.{le_up2}
 use Rattle.plane.proofs.Points.{within_times}
 use Rattle.copper_shape.specs.Shapes.{Copper}
 use Rattle.copper_shape.specs.declared.edge.Edge.{Edge}
-use Rattle.touching.specs.Core.{area, InCore, InCopper, Touches}
+use Rattle.touching.specs.Core.{InCore, InCopper, Touches}
 use Rattle.hulls.specs.Cells.{around}
 use Rattle.hulls.specs.Hulls.{hulls_of, in_units}
 use Rattle.hulls.proofs.Copper.{copper_law}
@@ -20,7 +20,7 @@ use Rattle.board_language.specs.declared.board.Pad.{Pad}
 use Rattle.board_language.specs.declared.board.Rules.{Rules}
 use Rattle.board_language.specs.Board.{Board}
 use Rattle.fill_rules.specs.Tasks.{Settings, zone_at, layer_at, has_layer}
-use Rattle.fill_rules.specs.Needs.{units, is_foreign, item_need, Need, at_need, when, track_copper, via_copper, hulls_round, pad_hulls, role, is_on, is_barred, track_needs, via_needs, pad_needs, edge_needs, edge_need, item_needs}
+use Rattle.fill_rules.specs.Needs.{units, is_foreign, item_need, Need, at_need, when, track_copper, via_copper, hulls_round, pad_hulls, role, is_on, is_barred, track_needs, via_needs, pad_needs, edge_needs, item_needs}
 use Rattle.fill_rules.specs.Anchors.{IsTouching, anchors_of}
 use Rattle.fill_rules.specs.InWords.{IsSolidPad, IsAnchor}
 use Rattle.fill_rules.specs.Dirty.{unlined, IsLike, IsUntouched}
@@ -149,24 +149,30 @@ module _ (b d : Board) (ts : List Track) (vs : List Via) (rules : b.rules ≡ d.
     anchor_to one c o t inside (n, inl (p, i, s, e)) =
         let q = pad_to p i in
         (n, inl (q.0, q.1, solid_as p q.0 q.2 s, e ∙ ap (λ (x : Pad). x.shape) q.2))
-    anchor_to one c o t inside (n, inr (inl (v, i, h, m, e))) = (n, elim (vias v i) [
-      | inl k ↦
-          let y = one_of_map unplaced_via (unplaced_via v) d.vias k in
-          inr (inl (y.0, y.1, ap (λ (x : Via). has_layer x.layers l) (sym y.2) ∙ h, ap (λ (x : Via). x.net) (sym y.2) ∙ m, e ∙ ap via_copper y.2))
-      | inr k ↦
-          let y = one_of_map unplaced_via (unplaced_via v) vs k in
-          absurd (no_via y.0 y.1 (ap (λ (x : Via). has_layer x.layers l) (sym y.2) ∙ h)
-          (touched (item_need b z 0) (via_copper y.0) o f one (subst (λ (x : Copper). IsTouching x o) (e ∙ ap via_copper y.2) t) inside))
-    ])
-    anchor_to one c o t inside (n, inr (inr (r, i, h, m, e))) = (n, elim (tracks r i) [
-      | inl k ↦
-          let y = one_of_map unplaced (unplaced r) d.tracks k in
-          inr (inr (y.0, y.1, ap (λ (x : Track). x.layer) (sym y.2) ∙ h, ap (λ (x : Track). x.net) (sym y.2) ∙ m, e ∙ ap track_copper y.2))
-      | inr k ↦
-          let y = one_of_map unplaced (unplaced r) ts k in
-          absurd (no_track y.0 y.1 (ap (λ (x : Track). x.layer) (sym y.2) ∙ h)
-          (touched (item_need b z 0) (track_copper y.0) o f one (subst (λ (x : Copper). IsTouching x o) (e ∙ ap track_copper y.2) t) inside))
-    ])
+    anchor_to one c o t inside (n, inr (inl (v, i, h, m, e))) = (
+      n,
+      elim (vias v i) [
+        | inl k ↦
+            let y = one_of_map unplaced_via (unplaced_via v) d.vias k in
+            inr (inl (y.0, y.1, ap (λ (x : Via). has_layer x.layers l) (sym y.2) ∙ h, ap (λ (x : Via). x.net) (sym y.2) ∙ m, e ∙ ap via_copper y.2))
+        | inr k ↦
+            let y = one_of_map unplaced_via (unplaced_via v) vs k in
+            absurd (no_via y.0 y.1 (ap (λ (x : Via). has_layer x.layers l) (sym y.2) ∙ h)
+            (touched (item_need b z 0) (via_copper y.0) o f one (subst (λ (x : Copper). IsTouching x o) (e ∙ ap via_copper y.2) t) inside))
+      ],
+    )
+    anchor_to one c o t inside (n, inr (inr (r, i, h, m, e))) = (
+      n,
+      elim (tracks r i) [
+        | inl k ↦
+            let y = one_of_map unplaced (unplaced r) d.tracks k in
+            inr (inr (y.0, y.1, ap (λ (x : Track). x.layer) (sym y.2) ∙ h, ap (λ (x : Track). x.net) (sym y.2) ∙ m, e ∙ ap track_copper y.2))
+        | inr k ↦
+            let y = one_of_map unplaced (unplaced r) ts k in
+            absurd (no_track y.0 y.1 (ap (λ (x : Track). x.layer) (sym y.2) ∙ h)
+            (touched (item_need b z 0) (track_copper y.0) o f one (subst (λ (x : Copper). IsTouching x o) (e ∙ ap track_copper y.2) t) inside))
+      ],
+    )
 
     pub anchors_to : 1 ≤ item_need b z 0 → (c : Copper) (o : Bounds) → IsTouching c o → ((p : PlanePoint) → In o p → In f p)
         → IsOneOf c (anchors_of b z l) → IsOneOf c (anchors_of d z l)
