@@ -1,6 +1,6 @@
 -- The list of anchors, in words.
-use Rattle.std.proofs.Common.{◌≡◌, refl, sym, ap, subst, ℕ, ◌⊎◌, inl, inr, arith, List, [], ◌∷◌, ◌++◌}
-use Rattle.std.specs.Prelude.{◌↔◌, Bool, true, false, not, cond, ◌&&◌, ◌||◌, ◌==◌, flat_map, unwrap_or}
+use Rattle.std.proofs.Common.{◌≡◌, refl, sym, ap, subst, ℕ, ◌⊎◌, inl, inr, arith, [], ◌∷◌, ◌++◌}
+use Rattle.std.specs.Prelude.{Bool, true, false, not, cond, ◌&&◌, ◌||◌, ◌==◌, flat_map, unwrap_or}
 use Rattle.std.proofs.lemmas.Bool.{and_parts, true≢false}
 use Rattle.std.proofs.lemmas.Bool.Decides.{nat_tests}
 use Rattle.copper_shape.specs.Shapes.{Copper}
@@ -14,12 +14,12 @@ use Rattle.board_language.specs.declared.board.Via.{Via}
 use Rattle.board_language.specs.declared.board.Pad.{Pad}
 use Rattle.board_language.specs.Board.{Board}
 use Rattle.fill_rules.specs.Tasks.{Settings, has_layer}
-use Rattle.fill_rules.specs.Needs.{is_foreign, Role, Foreign, Relieved, Joined, Unjoined, role_by, role_of_kind, role, stands, is_on, track_copper, via_copper, when}
+use Rattle.fill_rules.specs.Needs.{is_foreign, Foreign, role_by, role_of_kind, role, stands, is_on, track_copper, via_copper}
 use Rattle.fill_rules.specs.Anchors.{is_joined, pad_anchors, via_anchors, track_anchors, anchors_of}
 use Rattle.fill_rules.specs.InWords.{ForeignLaw, IsSolidPad, IsAnchor, AnchorsLaw}
 use Rattle.fill_rules.proofs.Members.{one_of_append, append_left, append_right, one_of_flat, flat_one_of, when_is, is_when}
 
-eq_true : (a b : ℕ) → (a == b) ≡ true → a ≡ b
+pub eq_true : (a b : ℕ) → (a == b) ≡ true → a ≡ b
 eq_true a b e = grind (arith, nat_tests)
 
 eq_false : (a b : ℕ) → (a == b) ≡ false → a ≡ b → ⊥

@@ -6,7 +6,6 @@ use Rattle.classes.specs.Classes.{IsOneOf}
 use Rattle.classes.proofs.Reaching.{reaches_map, reaches_self, reaches_then, reaches_link, reaches_keeps}
 use Rattle.grid_num.specs.declared.Point.{Point}
 use Rattle.covering.specs.Covering.{Covers, edges_of}
-use Rattle.copper_shape.specs.Shapes.{Copper}
 use Rattle.copper_shape.specs.declared.edge.Edge.{Edge}
 use Rattle.hulls.specs.Cells.{around}
 use Rattle.board_language.specs.declared.board.Pad.{Pad}

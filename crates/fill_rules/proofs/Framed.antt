@@ -1,7 +1,7 @@
 -- A point that a closed chain covers lies in the least octagon round the chain's corners.
 use lib.IntN.{*ℤ_comm}
-use Rattle.std.proofs.Common.{◌≡◌, refl, sym, ◌∙◌, ap, ℕ, zero, suc, ◌+◌, ◌*◌, ◌%◌, ◌≤◌, ◌⊎◌, inl, inr, arith, List, [], ◌∷◌}
-use Rattle.std.specs.Prelude.{ℤ, pos, ◌+ℤ◌, ◌-ℤ◌, ◌*ℤ◌, ◌≤ℤ◌, ◌<ℤ◌, Bool, true, false, not, cond, ◌&&◌, ◌||◌, int_lt, int_le, sum_by, Any}
+use Rattle.std.proofs.Common.{◌≡◌, refl, sym, ◌∙◌, ap, ℕ, suc, ◌+◌, ◌%◌, ◌⊎◌, inl, inr, arith, List, [], ◌∷◌}
+use Rattle.std.specs.Prelude.{ℤ, pos, ◌+ℤ◌, ◌-ℤ◌, ◌*ℤ◌, ◌≤ℤ◌, ◌<ℤ◌, Bool, true, false, not, cond, ◌&&◌, ◌||◌, int_lt, int_le, Any}
 use Rattle.std.specs.List.{All}
 use Rattle.std.proofs.lemmas.Int.{ints, by_lt_z}
 use Rattle.std.proofs.lemmas.Bool.{and_parts, true≢false}
@@ -9,15 +9,15 @@ use Rattle.std.proofs.lemmas.List.Sums.{sum_by-cons}
 use Rattle.plane.specs.Plane.{PlanePoint, Bounds, Within, In, times}
 use Rattle.plane.proofs.Times.{mul_le, mul_add, mul_sub, mul_lt_back}
 use Rattle.grid_num.specs.declared.Point.{Point}
-use Rattle.covering.specs.Covering.{Edge, IsOn, Between, down_crossing, crossing, crossings, IsOdd, Covers, edges_to, edges_of}
-use Rattle.covering.proofs.Counts.{less_true, less_false, most_true, most_false}
+use Rattle.covering.specs.Covering.{Edge, IsOn, Between, crossing, crossings, IsOdd, Covers, edges_to, edges_of}
+use Rattle.covering.proofs.Counts.{less_true, most_true, most_false}
 use Rattle.covering.proofs.Laws.{pull}
 use Rattle.covering.proofs.On.{on_upright}
 use Rattle.covering.proofs.Lists.{any_none, any_cases, covers_cases}
 use Rattle.touching.proofs.Ring.{distrib_sub, times_diff}
 use Rattle.hulls.specs.Cells.{around}
 use Rattle.hulls.proofs.Around.{around_holds}
-use Rattle.fill_rules.proofs.Heights.{Row, row, height, test_left, test_right, low_cross, high_cross, IsMean, mean_in, natural}
+use Rattle.fill_rules.proofs.Heights.{Row, row, height, test_left, test_right, low_cross, high_cross, IsMean, mean_in}
 
 -- ---- the ends of all edges lie in the frame
 abbrev IsHeld : Bounds → Point → Type 0
@@ -80,8 +80,19 @@ four a b c d = omega (arith, ints, times_diff a b (c -ℤ d), distrib_sub a c d,
 line_back : (k : ℕ) (sx sy fx fy x y : ℤ) → (fy -ℤ sy) *ℤ (x -ℤ pos k *ℤ sx) ≡ (fx -ℤ sx) *ℤ (y -ℤ pos k *ℤ sy)
     → (sy -ℤ fy) *ℤ (x -ℤ pos k *ℤ fx) ≡ (sx -ℤ fx) *ℤ (y -ℤ pos k *ℤ fy)
 line_back k sx sy fx fy x y h =
-    omega (arith, ints, h, four fy sy x (pos k *ℤ sx), four fx sx y (pos k *ℤ sy), four sy fy x (pos k *ℤ fx), four sx fx y (pos k *ℤ fy),
-    crossed sy sx k, crossed fy fx k, crossed fy sx k, crossed sy fx k)
+    omega (
+      arith,
+      ints,
+      h,
+      four fy sy x (pos k *ℤ sx),
+      four fx sx y (pos k *ℤ sy),
+      four sy fy x (pos k *ℤ fx),
+      four sx fx y (pos k *ℤ fy),
+      crossed sy sx k,
+      crossed fy fx k,
+      crossed fy sx k,
+      crossed sy fx k,
+    )
 
 turned : Edge → Edge
 turned e = record { start = e.finish; finish = e.start }

@@ -1,14 +1,13 @@
 -- The lists and numbers of the rules, in words: needs, anchors and spokes.
-use Rattle.std.proofs.Common.{◌≡◌, refl, sym, ◌∙◌, ap, subst, ℕ, ◌+◌, ◌*◌, ◌≤◌, ◌⊎◌, inl, inr, arith, List, [], ◌∷◌, ◌++◌}
-use Rattle.std.specs.Prelude.{◌↔◌, ◌/◌, max, ℤ, pos, neg_ℤ, ◌+ℤ◌, ◌-ℤ◌, ◌*ℤ◌, ◌≤ℤ◌, Bool, true, false, not, cond, ◌&&◌, ◌||◌, ◌==◌, flat_map, unwrap_or}
+use Rattle.std.proofs.Common.{◌≡◌, refl, ◌∙◌, ap, ℕ, ◌≤◌, ◌⊎◌, inl, inr, arith}
+use Rattle.std.specs.Prelude.{◌↔◌, max, ℤ, pos, neg_ℤ, ◌+ℤ◌, ◌-ℤ◌, ◌*ℤ◌}
 use Rattle.std.proofs.lemmas.Int.{ints}
-use Rattle.std.proofs.lemmas.Bool.{cases_eq, cases_lt, and_parts, true≢false}
+use Rattle.std.proofs.lemmas.Bool.{cases_lt}
 use Rattle.plane.specs.Plane.{PlanePoint, Bounds, In, box_of}
-use Rattle.plane.specs.Laws.{IsInBox}
-use Rattle.plane.proofs.Times.{mul_add, mul_sub, mul_neg}
+use Rattle.plane.proofs.Times.{mul_neg}
 use Rattle.plane.proofs.Moved.{box_law}
-use Rattle.fill_rules.specs.Needs.{units, is_foreign}
-use Rattle.fill_rules.specs.InWords.{ForeignLaw, UnitsLaw, ItemNeedLaw, ZoneNeedLaw, IsGreatest, Direction, East, South, West, North, ahead, aside, rim, IsInSpoke, AreSpokes, SpokesLaw, GapLaw}
+use Rattle.fill_rules.specs.Needs.{units}
+use Rattle.fill_rules.specs.InWords.{UnitsLaw, ItemNeedLaw, ZoneNeedLaw, IsGreatest, East, South, West, North, IsInSpoke, AreSpokes, SpokesLaw, GapLaw}
 
 -- ---- needs
 pub units_law : UnitsLaw

@@ -1,5 +1,5 @@
 -- A fill keeps its needs.
-use Rattle.std.proofs.Common.{◌≡◌, refl, sym, subst, ℕ, ◌<◌, ◌⊎◌, inl, inr, arith, List, ◌++◌}
+use Rattle.std.proofs.Common.{◌≡◌, refl, sym, subst, ℕ, inl, inr, arith, List}
 use Rattle.std.specs.Prelude.{Bool, true, false, ◌&&◌, ◌==◌, flat_map}
 use Rattle.std.proofs.lemmas.Bool.{true≢false}
 use Rattle.std.proofs.lemmas.Bool.Decides.{nat_tests}

@@ -1,6 +1,6 @@
 -- Nearness by the need, components and parts.
-use Rattle.std.proofs.Common.{◌≡◌, sym, subst, ℕ, ◌≤◌, ◌<◌, ◌⊎◌, inl, inr, arith, List, length, get_or}
-use Rattle.std.specs.Prelude.{◌↔◌, true}
+use Rattle.std.proofs.Common.{◌≡◌, sym, subst, ℕ, ◌≤◌, ◌<◌, inl, inr, arith, List, length, get_or}
+use Rattle.std.specs.Prelude.{◌↔◌}
 use Rattle.plane.specs.Plane.{PlanePoint, Bounds, IsNear, AreNear, IsMeeting}
 use Rattle.plane.proofs.Near.{IsNear-more, AreNear-more, IsMeeting-sym}
 use Rattle.classes.specs.Classes.{Reaches}

@@ -14,3 +14,5 @@ pub mod InWords
 pub mod Anchors
 pub mod Kept
 pub mod Sound
+pub mod SameTasks
+pub mod Edits

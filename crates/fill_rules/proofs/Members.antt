@@ -56,6 +56,12 @@ when_is false x xs h = absurd h
 pub is_when : {A : Type 0} (b : Bool) (x : A) (xs : List A) → b ≡ true → IsOneOf x xs → IsOneOf x (when b xs)
 is_when b x xs e h = subst (λ (c : Bool). IsOneOf x (when c xs)) (sym e) h
 
+pub one_of_map : {A B : Type 0} (f : A → B) (y : B) (xs : List A) → IsOneOf y (map f xs) → (x : A) × IsOneOf x xs × (y ≡ f x)
+unfolding IsOneOf
+one_of_map f y [] h = absurd h
+one_of_map f y (x ∷ xs) (inl e) = (x, inl refl, e)
+one_of_map f y (x ∷ xs) (inr i) = let r = one_of_map f y xs i in (r.0, inr r.1, r.2)
+
 pub map_one_of : {A B : Type 0} (f : A → B) (x : A) (xs : List A) → IsOneOf x xs → IsOneOf (f x) (map f xs)
 unfolding IsOneOf
 map_one_of f x [] h = absurd h

@@ -8,13 +8,7 @@ use Rattle.board_language.specs.declared.board.Zone.{Zone}
 use Rattle.board_language.specs.Board.{Board}
 use Rattle.fill_rules.specs.Tasks.{Task, no_zone, has_layer, layers_below, tasks_from, zone_of, put, put_all, ranked}
 use Rattle.fill_rules.specs.Ranking.{IsFiled, Outranks, IsSortedBy, IsRanking}
-use Rattle.fill_rules.proofs.Members.{one_of_append, append_left, append_right, map_one_of}
-
-one_of_map : {A B : Type 0} (f : A → B) (y : B) (xs : List A) → IsOneOf y (map f xs) → (x : A) × IsOneOf x xs × (y ≡ f x)
-unfolding IsOneOf
-one_of_map f y [] h = absurd h
-one_of_map f y (x ∷ xs) (inl e) = (x, inl refl, e)
-one_of_map f y (x ∷ xs) (inr i) = let r = one_of_map f y xs i in (r.0, inr r.1, r.2)
+use Rattle.fill_rules.proofs.Members.{one_of_append, append_left, append_right, one_of_map, map_one_of}
 
 sorted_append : {A : Type 0} (R : A → A → Type 0) (xs ys : List A) → IsSortedBy R xs → IsSortedBy R ys
     → ((x y : A) → IsOneOf x xs → IsOneOf y ys → R x y) → IsSortedBy R (xs ++ ys)

@@ -1,8 +1,7 @@
 -- A board with pads' copper and thick enough zones is sound.
-use Rattle.std.proofs.Common.{◌≡◌, refl, sym, ap, subst, ℕ, zero, suc, ◌+◌, ◌<◌, inl, inr, arith, List, [], ◌∷◌, get_or, length}
+use Rattle.std.proofs.Common.{◌≡◌, sym, ap, subst, ℕ, suc, ◌+◌, inl, inr, arith, List, [], ◌∷◌}
 use Rattle.std.specs.Prelude.{◌/◌, ℤ, pos, negsuc, ◌+ℤ◌}
 use Rattle.std.specs.List.{All}
-use Rattle.std.proofs.lemmas.Int.{ints}
 use Rattle.plane.specs.Plane.{Bounds, Within}
 use Rattle.classes.specs.Classes.{IsOneOf}
 use Rattle.hulls.specs.Cells.{floor_of}

@@ -1,6 +1,6 @@
 -- What the lists and numbers of the rules say, in the words of a board: which need counts, which copper anchors, where a
 -- spoke lies, and which copper a fill keeps away from.
-use Rattle.std.specs.Prelude.{◌≡◌, ◌⊎◌, ◌↔◌, ℕ, ◌≤◌, ◌<◌, ◌*◌, ℤ, pos, neg_ℤ, ◌+ℤ◌, ◌-ℤ◌, ◌*ℤ◌, ◌≤ℤ◌, true, ◌&&◌, List, [], ◌∷◌, unwrap_or}
+use Rattle.std.specs.Prelude.{◌≡◌, ◌⊎◌, ◌↔◌, ℕ, ◌≤◌, ◌<◌, ◌*◌, ℤ, pos, neg_ℤ, ◌+ℤ◌, ◌-ℤ◌, ◌*ℤ◌, ◌≤ℤ◌, true, List, [], ◌∷◌, unwrap_or}
 use Rattle.plane.specs.Plane.{PlanePoint, Bounds, In, minus, scaled_dist_sq}
 use Rattle.copper_shape.specs.Shapes.{Copper}
 use Rattle.copper_shape.specs.declared.edge.Edge.{Edge}

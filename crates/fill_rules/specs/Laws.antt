@@ -1,14 +1,14 @@
 -- The laws of the rules of the fill.
 use Rattle.std.specs.Prelude.{◌≡◌, ◌⊎◌, ◌↔◌, ℕ, ◌≤◌, ◌<◌, ◌+◌, ◌*◌, pos, ◌*ℤ◌, ◌≤ℤ◌, Bool, true, List, length, get_or}
-use Rattle.plane.specs.Plane.{PlanePoint, Bounds, In, IsNear, AreNear, IsMeeting, minus, scaled_dist_sq}
+use Rattle.plane.specs.Plane.{PlanePoint, Bounds, In, IsNear, AreNear, IsMeeting, scaled_dist_sq}
 use Rattle.grid_num.specs.declared.Point.{Point}
 use Rattle.covering.specs.Covering.{Covers, edges_of}
 use Rattle.hulls.specs.Cells.{around}
-use Rattle.classes.specs.Classes.{Reaches, IsOneOf}
+use Rattle.classes.specs.Classes.{Reaches}
 use Rattle.board_language.specs.Board.{Board}
 use Rattle.fill_rules.specs.Tasks.{ranked, zone_at, layer_at}
 use Rattle.fill_rules.specs.Reach.{IsReaching}
-use Rattle.fill_rules.specs.Fill.{brush_at, IsAllowed, IsLinked, IsLive, IsKept, InFill, fills_below, fill_of, reaching}
+use Rattle.fill_rules.specs.Fill.{brush_at, IsAllowed, IsLinked, IsLive, IsKept, InFill, fill_of, reaching}
 use Rattle.fill_rules.specs.Parts.{AreParts, IsOnePart}
 use Rattle.fill_rules.specs.Sound.{IsSound}
 use Rattle.fill_rules.specs.Dirty.{IsDirty, IsSameFill, IsSameMade, IsUntouched, Spreads}

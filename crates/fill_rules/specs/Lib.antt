@@ -7,6 +7,7 @@ pub mod Fill
 pub mod Parts
 pub mod Sound
 pub mod Dirty
+pub mod Edits
 pub mod Lists
 pub mod Ranking
 pub mod Distance

@@ -4,7 +4,7 @@ use Rattle.std.specs.Prelude.{ℕ, ◌+◌, ◌/◌, max, Bool, true, false, not
 use Rattle.plane.specs.Plane.{Bounds, box_of}
 use Rattle.copper_shape.specs.Shapes.{Copper}
 use Rattle.copper_shape.specs.declared.edge.Edge.{Edge}
-use Rattle.touching.specs.Core.{Core, area, line}
+use Rattle.touching.specs.Core.{area, line}
 use Rattle.hulls.specs.Hulls.{hulls_of, edge_hulls_of, in_halves}
 use Rattle.board_language.specs.declared.Join.{Join}
 use Rattle.board_language.specs.declared.Join.TheVariants.{Thermal, Solid, Apart, PlatedThermal}

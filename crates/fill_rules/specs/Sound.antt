@@ -1,5 +1,5 @@
 -- What every accepted board has, as far as the fill needs it.
-use Rattle.std.specs.Prelude.{ℕ, ◌≤◌, ◌+ℤ◌}
+use Rattle.std.specs.Prelude.{◌≤◌, ◌+ℤ◌}
 use Rattle.plane.specs.Plane.{Bounds, Within, grid_point}
 use Rattle.classes.specs.Classes.{IsOneOf}
 use Rattle.touching.specs.Core.{InCore}

@@ -4,6 +4,7 @@
 #![tactic(auto)]
 
 ghost use Rattle.fill_rules.specs.InWords.{ForeignLaw, UnitsLaw, ItemNeedLaw, ZoneNeedLaw, AnchorsLaw, SpokesLaw, GapLaw, CopperKeptLaw, EdgeKeptLaw, ArcKeptLaw, ZoneKeptLaw};
+ghost use Rattle.fill_rules.specs.Edits.{DirectLaw};
 ghost use Rattle.fill_rules.specs.Sound.{SoundLaw};
 ghost use Rattle.fill_rules.specs.Laws.{NearLaw, ClearLaw, RankingLaw, FrameLaw, KeptLaw, ComponentLaw, WholeLaw, TogetherLaw, FillLaw, FillFrameLaw, SpokeFrameLaw, ListLaw, OneLaw, ReachLaw, ReachedLaw, CleanLaw, SameLaw, PartsLaw, DistanceLaw};
 
@@ -82,6 +83,11 @@ pub fn reach_law()
 pub fn clean_law()
     ensures made { CleanLaw }
     ensures fill { SameLaw }
+{}
+
+/// A task that no track or via which came or went comes near to, at the need and whatever the nets, is untouched.
+pub fn direct_law()
+    ensures { DirectLaw }
 {}
 
 /// Pieces have one label exactly where they are in one part.
