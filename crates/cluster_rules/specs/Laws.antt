@@ -1,9 +1,14 @@
 -- The laws of clusters.
-use Rattle.std.specs.Prelude.{◌≡◌, ℕ, ◌<◌, List, length, get_or}
+use Rattle.std.specs.Prelude.{◌≡◌, ℕ, ◌<◌, ◌≤◌, List, length, get_or}
 use Rattle.board_language.specs.Board.{Board}
 use Rattle.copper_shape.specs.Shapes.{Copper}
-use Rattle.cluster_rules.specs.Nodes.{Node, Made}
-use Rattle.cluster_rules.specs.Clusters.{AreTouching, AreJoined, AreJoinedAt, IsOneCluster, AreClusters}
+use Rattle.classes.specs.Classes.{IsOneOf}
+use Rattle.cluster_rules.specs.Nodes.{Node, Made, nodes_of}
+use Rattle.cluster_rules.specs.Clusters.{net_of, AreTouching, AreJoined, AreJoinedAt, IsOneCluster, AreClusters}
+
+-- a node is copper of a net
+abbrev pub NodeLaw : Type 0
+NodeLaw = (b : Board) (fills : List Made) (n : Node) → IsOneOf n (nodes_of b fills) → 1 ≤ net_of b n
 
 -- touching and joining have no order
 abbrev pub TouchLaw : Type 0

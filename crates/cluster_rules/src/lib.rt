@@ -3,7 +3,12 @@
 //! Pieces are units of the grid (2 nm), shapes halves of a nanometre, anchors nanometres.
 #![tactic(auto)]
 
-ghost use Rattle.cluster_rules.specs.Laws.{TouchLaw, JoinLaw, ClusterLaw, OneLabellingLaw, LabelLaw};
+ghost use Rattle.cluster_rules.specs.Laws.{NodeLaw, TouchLaw, JoinLaw, ClusterLaw, OneLabellingLaw, LabelLaw};
+
+/// Each node is copper of a net: a pad, a track, a via or a part of a fill without a net is none.
+pub fn node_law()
+    ensures { NodeLaw }
+{}
 
 /// Touching and joining have no order.
 pub fn touch_law()
