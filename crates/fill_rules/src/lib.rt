@@ -4,7 +4,7 @@
 #![tactic(auto)]
 
 ghost use Rattle.fill_rules.specs.InWords.{ForeignLaw, UnitsLaw, ItemNeedLaw, ZoneNeedLaw, AnchorsLaw, SpokesLaw, GapLaw, CopperKeptLaw, EdgeKeptLaw, ArcKeptLaw, ZoneKeptLaw};
-ghost use Rattle.fill_rules.specs.Edits.{DirectLaw};
+ghost use Rattle.fill_rules.specs.Edits.{DirectLaw, SettingsLaw};
 ghost use Rattle.fill_rules.specs.Sound.{SoundLaw};
 ghost use Rattle.fill_rules.specs.Laws.{NearLaw, ClearLaw, RankingLaw, FrameLaw, KeptLaw, ComponentLaw, WholeLaw, TogetherLaw, FillLaw, FillFrameLaw, SpokeFrameLaw, ListLaw, OneLaw, ReachLaw, ReachedLaw, CleanLaw, SameLaw, PartsLaw, DistanceLaw};
 
@@ -85,9 +85,11 @@ pub fn clean_law()
     ensures fill { SameLaw }
 {}
 
-/// A task that no track or via which came or went comes near to, at the need and whatever the nets, is untouched.
+/// A task is untouched that no track or via which came or went comes near to, at the need and whatever the nets; and, where a
+/// zone's settings changed, that is of another zone and reached by none of its tasks, before or after.
 pub fn direct_law()
-    ensures { DirectLaw }
+    ensures copper { DirectLaw }
+    ensures settings { SettingsLaw }
 {}
 
 /// Pieces have one label exactly where they are in one part.
