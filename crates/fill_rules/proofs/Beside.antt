@@ -1,5 +1,5 @@
 -- What bars or anchors in a frame on one board does so on another that is the same near the frame.
-use Rattle.std.proofs.Common.{◌≡◌, refl, sym, ◌∙◌, ap, subst, ℕ, ◌+◌, ◌*◌, ◌≤◌, ◌<◌, ◌⊎◌, inl, inr, mul_comm, arith, [], List, map}
+use Rattle.std.proofs.Common.{◌≡◌, sym, ◌∙◌, ap, subst, ℕ, ◌+◌, ◌*◌, ◌≤◌, ◌<◌, inl, inr, mul_comm, arith, List, map}
 use Rattle.std.specs.Prelude.{ℤ, max, pos, ◌*ℤ◌, ◌-ℤ◌, true, ◌&&◌, ◌==◌, flat_map}
 use Rattle.std.specs.Int.RustNames.{unsigned_abs}
 use Rattle.std.proofs.lemmas.Int.{ints}
@@ -10,7 +10,6 @@ use Rattle.plane.proofs.Points.{within_times}
 use Rattle.copper_shape.specs.Shapes.{Copper}
 use Rattle.copper_shape.specs.declared.edge.Edge.{Edge}
 use Rattle.touching.specs.Core.{InCore, InCopper, Touches}
-use Rattle.hulls.specs.Cells.{around}
 use Rattle.hulls.specs.Hulls.{hulls_of, in_units}
 use Rattle.hulls.proofs.Copper.{copper_law}
 use Rattle.classes.specs.Classes.{IsOneOf}
@@ -19,12 +18,11 @@ use Rattle.board_language.specs.declared.board.Via.{Via}
 use Rattle.board_language.specs.declared.board.Pad.{Pad}
 use Rattle.board_language.specs.declared.board.Rules.{Rules}
 use Rattle.board_language.specs.Board.{Board}
-use Rattle.fill_rules.specs.Tasks.{Settings, task_at, zone_at, layer_at, has_layer}
+use Rattle.fill_rules.specs.Tasks.{Settings, has_layer}
 use Rattle.fill_rules.specs.Needs.{units, is_foreign, item_need, Need, at_need, when, track_copper, via_copper, hulls_round, pad_hulls, role, is_on, is_barred, track_needs, via_needs, pad_needs, edge_needs, item_needs}
 use Rattle.fill_rules.specs.Anchors.{IsTouching, anchors_of}
-use Rattle.fill_rules.specs.Reach.{IsReaching}
 use Rattle.fill_rules.specs.InWords.{IsSolidPad, IsAnchor}
-use Rattle.fill_rules.specs.Dirty.{unlined, IsLike, IsUntouched}
+use Rattle.fill_rules.specs.Dirty.{unlined}
 use Rattle.fill_rules.specs.Edits.{unplaced, unplaced_via, AreAmong}
 use Rattle.fill_rules.proofs.Members.{one_of_append, append_left, append_right, one_of_flat, flat_one_of, when_is, map_one_of, one_of_map}
 use Rattle.fill_rules.proofs.Members.{some_one_of}

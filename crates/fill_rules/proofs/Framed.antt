@@ -1,23 +1,19 @@
 -- A point that a closed chain covers lies in the least octagon round the chain's corners.
 use lib.IntN.{*ℤ_comm}
-use Rattle.std.proofs.Common.{◌≡◌, refl, sym, ◌∙◌, ap, ℕ, suc, ◌+◌, ◌%◌, ◌⊎◌, inl, inr, arith, List, [], ◌∷◌}
-use Rattle.std.specs.Prelude.{ℤ, pos, ◌+ℤ◌, ◌-ℤ◌, ◌*ℤ◌, ◌≤ℤ◌, ◌<ℤ◌, Bool, true, false, not, cond, ◌&&◌, ◌||◌, int_lt, int_le, Any}
-use Rattle.std.specs.List.{All}
-use Rattle.std.proofs.lemmas.Int.{ints, by_lt_z}
+use Rattle.std.proofs.Common.{◌≡◌, refl, sym, ◌∙◌, ap, ℕ, ◌+◌, ◌%◌, ◌⊎◌, inl, inr, arith, List, [], ◌∷◌}
+use Rattle.std.specs.Prelude.{ℤ, pos, ◌+ℤ◌, ◌-ℤ◌, ◌*ℤ◌, ◌≤ℤ◌, ◌<ℤ◌, Bool, true, false, not, cond, ◌&&◌, ◌||◌, int_lt, int_le}
+use Rattle.std.proofs.lemmas.Int.{ints}
 use Rattle.std.proofs.lemmas.Bool.{and_parts, true≢false}
 use Rattle.std.proofs.lemmas.List.Sums.{sum_by-cons}
-use Rattle.plane.specs.Plane.{PlanePoint, Bounds, Within, In, times}
-use Rattle.plane.proofs.Times.{mul_le, mul_add, mul_sub, mul_lt_back}
+use Rattle.plane.specs.Plane.{PlanePoint, Bounds, In}
+use Rattle.plane.proofs.Times.{mul_add, mul_sub, mul_lt_back}
 use Rattle.grid_num.specs.declared.Point.{Point}
-use Rattle.covering.specs.Covering.{Edge, IsOn, Between, crossing, crossings, IsOdd, Covers, edges_to, edges_of}
+use Rattle.covering.specs.Covering.{Edge, IsOn, crossing, crossings, IsOdd, Covers, edges_to, edges_of}
 use Rattle.covering.proofs.Counts.{less_true, most_true, most_false}
-use Rattle.covering.proofs.Laws.{pull}
-use Rattle.covering.proofs.On.{on_upright}
-use Rattle.covering.proofs.Lists.{any_none, any_cases, covers_cases}
-use Rattle.touching.proofs.Ring.{distrib_sub, times_diff}
+use Rattle.covering.proofs.Lists.{any_none, covers_cases}
 use Rattle.hulls.specs.Cells.{around}
 use Rattle.hulls.proofs.Around.{around_holds}
-use Rattle.fill_rules.proofs.Heights.{Row, row, height, test_left, test_right, low_cross, high_cross, IsMean, mean_in}
+use Rattle.fill_rules.proofs.Heights.{Row, row, height, test_left, test_right, low_cross, high_cross}
 use Rattle.fill_rules.proofs.OnEdges.{IsHeld, IsEdgeHeld, AreHeld, head_of, tail_of, to_held, one_held}
 
 -- ---- a point between two crossings of its row

@@ -10,7 +10,7 @@ use Rattle.fill_rules.specs.Tasks.{Task, Settings, settings_of, no_zone, no_task
 use Rattle.fill_rules.specs.Needs.{is_foreign, units, zone_need}
 use Rattle.std.specs.Prelude.{max}
 use Rattle.fill_rules.specs.Reach.{IsReaching}
-use Rattle.fill_rules.specs.Edits.{Placing, placing, Counting, counting, AreSameBut, IsSameButZone}
+use Rattle.fill_rules.specs.Edits.{Placing, placing, Counting, counting, IsSameButZone}
 
 pub get_or_map : {A B : Type 0} (f : A → B) (xs : List A) (n : ℕ) (d : A) → f (get_or xs n d) ≡ get_or (map f xs) n (f d)
 get_or_map f [] n d = refl

@@ -1,36 +1,21 @@
 -- A task of another zone that none of a zone's tasks reaches is untouched by the zone's settings.
-use Rattle.std.proofs.Common.{◌≡◌, refl, sym, ◌∙◌, ap, subst, ℕ, ◌+◌, ◌*◌, ◌≤◌, ◌<◌, ◌⊎◌, inl, inr, mul_comm, arith, [], List, map}
-use Rattle.std.specs.Prelude.{ℤ, max, pos, ◌*ℤ◌, ◌-ℤ◌, true, ◌&&◌, ◌==◌, flat_map}
-use Rattle.std.specs.Int.RustNames.{unsigned_abs}
-use Rattle.std.proofs.lemmas.Int.{ints}
-use Rattle.std.proofs.lemmas.Bool.{and_parts}
-use Rattle.plane.specs.Plane.{PlanePoint, Bounds, Within, In, times, minus, up2_of, IsNear, AreNear, positive_product}
-use Rattle.plane.proofs.Near.{le_up2}
-use Rattle.plane.proofs.Points.{within_times}
+use Rattle.std.proofs.Common.{◌≡◌, refl, sym, subst, ℕ, ◌≤◌, ◌⊎◌, inl, inr, arith, [], List, map}
+use Rattle.std.specs.Prelude.{max}
+use Rattle.plane.specs.Plane.{PlanePoint, Bounds, In, AreNear}
 use Rattle.copper_shape.specs.Shapes.{Copper}
-use Rattle.copper_shape.specs.declared.edge.Edge.{Edge}
-use Rattle.touching.specs.Core.{InCore, InCopper, Touches}
 use Rattle.hulls.specs.Cells.{around}
-use Rattle.hulls.specs.Hulls.{hulls_of, in_units}
-use Rattle.hulls.proofs.Copper.{copper_law}
 use Rattle.classes.specs.Classes.{IsOneOf}
-use Rattle.board_language.specs.declared.board.Track.{Track}
-use Rattle.board_language.specs.declared.board.Via.{Via}
-use Rattle.board_language.specs.declared.board.Pad.{Pad}
 use Rattle.board_language.specs.declared.board.Rules.{Rules}
 use Rattle.board_language.specs.Board.{Board}
-use Rattle.fill_rules.specs.Tasks.{Settings, task_at, zone_at, layer_at, has_layer}
-use Rattle.fill_rules.specs.Needs.{units, is_foreign, item_need, Need, at_need, when, track_copper, via_copper, hulls_round, pad_hulls, role, is_on, is_barred, track_needs, via_needs, pad_needs, edge_needs, item_needs}
+use Rattle.fill_rules.specs.Tasks.{Settings, task_at, zone_at, layer_at}
+use Rattle.fill_rules.specs.Needs.{units, item_need, Need, item_needs}
 use Rattle.fill_rules.specs.Anchors.{IsTouching, anchors_of}
 use Rattle.fill_rules.specs.Reach.{IsReaching}
-use Rattle.fill_rules.specs.InWords.{IsSolidPad, IsAnchor}
-use Rattle.fill_rules.specs.Dirty.{unlined, IsLike, IsUntouched}
-use Rattle.fill_rules.specs.Edits.{unplaced, unplaced_via, AreAmong, AreSameBut, IsTrackDirtying, IsViaDirtying, DirectLaw, IsSameButZone, SettingsLaw}
-use Rattle.fill_rules.proofs.Members.{one_of_append, append_left, append_right, one_of_flat, flat_one_of, when_is, map_one_of, one_of_map}
-use Rattle.fill_rules.proofs.Members.{some_one_of}
-use Rattle.fill_rules.proofs.Anchors.{anchors_law, eq_true}
-use Rattle.fill_rules.proofs.SameTasks.{layer_by, need_by, reach_by, layer_same, zone_same, need_same, reach_same, other_same}
-use Rattle.fill_rules.proofs.Beside.{IsNearSome, items_to, anchors_to}
+use Rattle.fill_rules.specs.Dirty.{IsUntouched}
+use Rattle.fill_rules.specs.Edits.{unplaced, unplaced_via, AreAmong, IsSameButZone, SettingsLaw}
+use Rattle.fill_rules.proofs.Members.{map_one_of}
+use Rattle.fill_rules.proofs.SameTasks.{layer_by, need_by, reach_by, other_same}
+use Rattle.fill_rules.proofs.Beside.{items_to, anchors_to}
 
 -- ---- a zone's settings
 among_same : {A : Type 0} (alike : A → A) (xs ys : List A) → map alike xs ≡ map alike ys → AreAmong alike [] xs ys
