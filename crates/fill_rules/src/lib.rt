@@ -5,6 +5,7 @@
 
 ghost use Rattle.fill_rules.specs.InWords.{ForeignLaw, UnitsLaw, ItemNeedLaw, ZoneNeedLaw, AnchorsLaw, SpokesLaw, GapLaw, CopperKeptLaw, EdgeKeptLaw, ArcKeptLaw, ZoneKeptLaw};
 ghost use Rattle.fill_rules.specs.Edits.{DirectLaw, SettingsLaw};
+ghost use Rattle.fill_rules.specs.Rows.{SpokesRow, RankRow, PadNeedRow, TrackNeedRow, EdgeNeedRow, BrushRow};
 ghost use Rattle.fill_rules.specs.Sound.{SoundLaw};
 ghost use Rattle.fill_rules.specs.Laws.{NearLaw, ClearLaw, RankingLaw, FrameLaw, KeptLaw, ComponentLaw, WholeLaw, TogetherLaw, FillLaw, FillFrameLaw, SpokeFrameLaw, ListLaw, OneLaw, ReachLaw, ReachedLaw, CleanLaw, SameLaw, PartsLaw, DistanceLaw};
 
@@ -110,4 +111,14 @@ pub fn clearance_law()
     ensures edge { EdgeKeptLaw }
     ensures arc { ArcKeptLaw }
     ensures zones { ZoneKeptLaw }
+{}
+
+/// What the rules give for boards that are worked by hand.
+pub fn rows()
+    ensures spokes { SpokesRow }
+    ensures rank { RankRow }
+    ensures pad { PadNeedRow }
+    ensures track { TrackNeedRow }
+    ensures edge { EdgeNeedRow }
+    ensures brush { BrushRow }
 {}
