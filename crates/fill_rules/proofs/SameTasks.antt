@@ -30,6 +30,13 @@ tasks_is count z (y ∷ zones) =
 abbrev HaveSamePlaces : Board → Board → Type 0
 HaveSamePlaces b d = map placing b.zones ≡ map placing d.zones
 
+map_length : (zones : List Zone) → length (map placing zones) ≡ length zones
+map_length [] = refl
+map_length (z ∷ zones) = ap suc (map_length zones)
+
+as_many : (ys zs : List Zone) → map placing ys ≡ map placing zs → length ys ≡ length zs
+as_many ys zs e = sym (map_length ys) ∙ (ap (λ (ps : List Placing). length ps) e ∙ map_length zs)
+
 abbrev rank_of : Board → Task → ℕ
 rank_of b t = (zone_of b t).priority
 
@@ -60,7 +67,9 @@ module _ (b d : Board) (layers : length b.layers ≡ length d.layers) (e : HaveS
 
   pub task_same : (i : ℕ) → task_at b i ≡ task_at d i
   unfolding task_at
-  task_same i = ap (λ (ts : List Task). get_or ts i no_task) ranked_same
+  task_same i =
+      ap (λ (ts : List Task). get_or ts i (no_task b)) ranked_same
+      ∙ ap (λ (n : ℕ). get_or (ranked d) i (record { zone = n; layer = 0 })) (as_many b.zones d.zones e)
 
   pub layer_by : (i : ℕ) → layer_at b i ≡ layer_at d i
   layer_by i = ap (λ (t : Task). t.layer) (task_same i)

@@ -7,7 +7,7 @@ ghost use Rattle.fill_rules.specs.InWords.{ForeignLaw, UnitsLaw, ItemNeedLaw, Zo
 ghost use Rattle.fill_rules.specs.Edits.{DirectLaw, SettingsLaw};
 ghost use Rattle.fill_rules.specs.Rows.{SpokesRow, RankRow, PadNeedRow, TrackNeedRow, EdgeNeedRow, BrushRow};
 ghost use Rattle.fill_rules.specs.Sound.{SoundLaw};
-ghost use Rattle.fill_rules.specs.Laws.{NearLaw, ClearLaw, RankingLaw, FrameLaw, KeptLaw, ComponentLaw, WholeLaw, TogetherLaw, FillLaw, FillFrameLaw, SpokeFrameLaw, ListLaw, OneLaw, ReachLaw, ReachedLaw, CleanLaw, SameLaw, PartsLaw, DistanceLaw};
+ghost use Rattle.fill_rules.specs.Laws.{NearLaw, ClearLaw, RankingLaw, FrameLaw, KeptLaw, ComponentLaw, WholeLaw, TogetherLaw, FillLaw, NoFillLaw, FillFrameLaw, SpokeFrameLaw, ListLaw, OneLaw, ReachLaw, ReachedLaw, CleanLaw, SameLaw, PartsLaw, DistanceLaw};
 
 /// Points that are near at a need are near at a greater one, so what keeps a need keeps each lesser one.
 pub fn near_law()
@@ -59,9 +59,10 @@ pub fn sound_law()
     ensures { SoundLaw }
 {}
 
-/// Each fill meets the rules over the fills above it; it lies in the frame of its outline, and so do its live spokes.
+/// Each fill meets the rules over the fills above it, and past the last rank there is none; it lies in the frame of its outline, and so do its live spokes.
 pub fn fill_law()
     ensures rules { FillLaw }
+    ensures none { NoFillLaw }
     ensures frame { FillFrameLaw }
     ensures spokes { SpokeFrameLaw }
 {}
