@@ -4,6 +4,7 @@ pub mod Fills
 pub mod Laws
 pub mod Limit
 pub mod Heights
+pub mod OnEdges
 pub mod Framed
 pub mod Reach
 pub mod Dirty
@@ -15,4 +16,6 @@ pub mod Anchors
 pub mod Kept
 pub mod Sound
 pub mod SameTasks
+pub mod Beside
 pub mod Edits
+pub mod ZoneEdits

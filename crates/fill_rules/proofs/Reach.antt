@@ -1,16 +1,18 @@
 -- A higher task that does not reach a task changes nothing in its fill.
-use Rattle.std.proofs.Common.{refl, sym, subst, ℕ, ◌+◌, ◌≤◌, ◌<◌, inl, inr, arith, lit≤}
+use Rattle.std.proofs.Common.{◌≡◌, refl, sym, ◌∙◌, ap, subst, ℕ, zero, suc, ◌+◌, ◌≤◌, ◌<◌, inl, inr, arith, lit≤, List, [], ◌∷◌, get_or, length}
 use Rattle.std.specs.Prelude.{ℤ, pos, ◌+ℤ◌, ◌≤ℤ◌, ◌<ℤ◌, ◌↔◌}
 use Rattle.std.proofs.lemmas.Int.{ints}
 use Rattle.plane.specs.Plane.{PlanePoint, Bounds, Within, In, StrictlyIn, ball_of, box_of, grid_point, up2_of, AreNear}
 use Rattle.plane.proofs.Near.{lt_up2}
 use Rattle.classes.specs.Classes.{IsOneOf}
 use Rattle.grid_num.specs.declared.Point.{Point}
+use Rattle.covering.specs.Covering.{IsOn, Covers, edges_of}
+use Rattle.covering.proofs.Lists.{any_none, covers_cases}
 use Rattle.hulls.specs.Cells.{floor_of, around}
 use Rattle.board_language.specs.declared.board.Pad.{Pad}
 use Rattle.board_language.specs.declared.board.Zone.{Zone}
 use Rattle.board_language.specs.Board.{Board}
-use Rattle.fill_rules.specs.Tasks.{Settings, task_at, zone_of, zone_at, layer_at, no_zone}
+use Rattle.fill_rules.specs.Tasks.{Task, Settings, ranked, task_at, zone_of, zone_at, layer_at, no_zone, no_task}
 use Rattle.fill_rules.specs.Needs.{when, pad_hulls}
 use Rattle.fill_rules.specs.Reliefs.{brush_radius, gap_of, half_bridge, spokes_by, pad_spokes, spokes_of, is_thermal}
 use Rattle.fill_rules.specs.Fill.{Fills, brush_at, Fits, IsLive, InFill, fill_of, reaching}
@@ -121,6 +123,32 @@ fill_in_frame b s above i p (inr (o, l, n, w)) = fits_in_frame b s i o (inr l.sp
 -- and so does each of a live spoke
 pub live_in_frame : (b : Board) → IsSound b → (above : Fills) (i : ℕ) (o : Bounds) (p : PlanePoint) → IsLive b above i o → In o p → InFrame b i p
 live_in_frame b s above i o p l n = fits_in_frame b s i o (inr l.spoke) l.fits p n
+
+-- ---- past the last rank
+get_or_past : {A : Type 0} (xs : List A) (n : ℕ) (d : A) → length xs ≤ n → get_or xs n d ≡ d
+get_or_past [] n d l = refl
+get_or_past (x ∷ xs) zero d l = absurd (omega (arith, l))
+get_or_past (x ∷ xs) (suc n) d l = get_or_past xs n d (omega (arith, l))
+
+no_outline : (b : Board) (i : ℕ) → length (ranked b) ≤ i → (zone_at b i).outline ≡ []
+unfolding zone_at zone_of task_at
+no_outline b i l =
+    ap (λ (t : Task). (get_or b.zones t.zone no_zone).outline) (get_or_past (ranked b) i (no_task b) l)
+    ∙ ap (λ (z : Zone). z.outline) (get_or_past b.zones (length b.zones) no_zone (omega arith))
+
+nothing_covered : (p : PlanePoint) → Covers (edges_of []) p → ⊥
+nothing_covered p c = elim (covers_cases [] p c) [ inl o ↦ any_none (λ e. IsOn e p) o | inr o ↦ omega (arith, o) ]
+
+nothing_fits : (b : Board) → IsSound b → (i : ℕ) (o : Bounds) → length (ranked b) ≤ i → IsUsed b i o → Fits b i o → ⊥
+unfolding IsSolid
+nothing_fits b s i o l u f =
+    let m = used_solid b s i o u in
+    nothing_covered m.0 (subst (λ (cs : List Point). Covers (edges_of cs) m.0) (no_outline b i l) (f.covered m.0 m.1))
+
+pub no_fill : (b : Board) → IsSound b → (above : Fills) (i : ℕ) (p : PlanePoint) → length (ranked b) ≤ i → InFill b above i p → ⊥
+unfolding InFill
+no_fill b s above i p l (inl (c, k, n)) = nothing_fits b s i (brush_at b i c) l (inl (c, refl)) k.allowed.fits
+no_fill b s above i p l (inr (o, v, n, w)) = nothing_fits b s i o l (inr v.spoke) v.fits
 
 -- ---- the reaching tasks alone
 clears_reaching : (b : Board) → IsSound b → (fills : Fills) → ((j : ℕ) (p : PlanePoint) → fills j p → InFrame b j p)

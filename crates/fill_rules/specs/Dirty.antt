@@ -47,7 +47,8 @@ pub record IsFollowed (b d : Board) (one other : Fills) (i k : ℕ) : Type 0 whe
       → (o : Bounds) → IsTouching s o → ((p : PlanePoint) → In o p → In (around (zone_at b i).outline) p)
       → IsOneOf s (anchors_of d (zone_at d k) (layer_at d k))
 
--- a task is dirty that can be come to from one that is dirtied directly, each time from a task whose fill changed to one that it reaches
+-- a task is dirty that can be come to from one that is dirtied directly, each time from a task whose fill changed to one
+-- that it reaches
 abbrev pub IsDirty : (ℕ → Type 0) → (ℕ → ℕ → Type 0) → ℕ → Type 0
 IsDirty direct spreads t = (s : ℕ) × direct s × Reaches spreads s t
 
@@ -60,7 +61,8 @@ pub record IsSameMade (b d : Board) (one other : Fills) (i k : ℕ) : Type 0 whe
   pub kept : (c : Point) → IsKept b one i c ↔ IsKept d other k c
   pub live : (o : Bounds) → IsLive b one i o ↔ IsLive d other k o
 
--- No edit dirties the task of rank k of d, whose rank on b was old k, directly: its settings stay, what is near its frame stays, and so do the tasks that reach it, with their needs.
+-- No edit dirties the task of rank k of d, whose rank on b was old k, directly: its settings stay, what is near its frame
+-- stays, and so do the tasks that reach it, with their needs.
 pub record IsUntouched (b d : Board) (old : ℕ → ℕ) (k : ℕ) : Type 0 where
   pub like : IsLike b d (old k) k
   pub items : (n : Need) → AreNear n.need (around (zone_at d k).outline) n.oct

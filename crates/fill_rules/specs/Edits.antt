@@ -1,5 +1,5 @@
 -- Tracks and vias that come or go, and which tasks that dirties directly.
-use Rattle.std.specs.Prelude.{◌≡◌, ◌⊎◌, ℕ, ◌≤◌, true, List, map, length}
+use Rattle.std.specs.Prelude.{◌≡◌, ◌⊎◌, ℕ, ◌≤◌, true, List, map, length, get_or}
 use Rattle.plane.specs.Plane.{Bounds, AreNear}
 use Rattle.hulls.specs.Cells.{around}
 use Rattle.classes.specs.Classes.{IsOneOf}
@@ -7,8 +7,9 @@ use Rattle.board_language.specs.declared.board.Track.{Track}
 use Rattle.board_language.specs.declared.board.Via.{Via}
 use Rattle.board_language.specs.declared.board.Zone.{Zone}
 use Rattle.board_language.specs.Board.{Board}
-use Rattle.fill_rules.specs.Tasks.{Settings, settings_of, zone_at, layer_at, has_layer}
+use Rattle.fill_rules.specs.Tasks.{Settings, settings_of, no_zone, task_at, zone_at, layer_at, has_layer}
 use Rattle.fill_rules.specs.Needs.{item_need, track_copper, via_copper, hulls_round}
+use Rattle.fill_rules.specs.Reach.{IsReaching}
 use Rattle.fill_rules.specs.Dirty.{unlined, IsUntouched}
 
 -- a track and a via, wherever they stand in the file
@@ -17,6 +18,14 @@ unplaced t = record { from = t.from; to = t.to; width = t.width; layer = t.layer
 
 abbrev pub unplaced_via : Via → Via
 unplaced_via v = record { at = v.at; size = v.size; layers = v.layers; net = v.net; span = record { from = 0; to = 0 }; line = 0 }
+
+-- what of a zone decides its tasks and their rank
+pub record Placing : Type 0 where
+  pub layers : ℕ
+  pub priority : ℕ
+
+abbrev pub placing : Zone → Placing
+placing z = record { layers = z.layers; priority = z.priority }
 
 -- what of a zone counts for its tasks and their fills
 pub record Counting : Type 0 where
@@ -64,4 +73,24 @@ abbrev pub DirectLaw : Type 0
 DirectLaw =
     (b d : Board) (ts : List Track) (vs : List Via) → AreSameBut b d ts vs → 1 ≤ d.rules.floor → (k : ℕ)
     → ((t : Track) → IsOneOf t ts → IsTrackDirtying d k t → ⊥) → ((v : Via) → IsOneOf v vs → IsViaDirtying d k v → ⊥)
+    → IsUntouched b d (λ (j : ℕ). j) k
+
+-- the boards are the same but for places in the file, and for the settings of the zone of number n
+pub record IsSameButZone (b d : Board) (n : ℕ) : Type 0 where
+  pub layers : length b.layers ≡ length d.layers
+  pub tracks : map unplaced b.tracks ≡ map unplaced d.tracks
+  pub vias : map unplaced_via b.vias ≡ map unplaced_via d.vias
+  pub pads : map unlined b.pads ≡ map unlined d.pads
+  pub places : map placing b.zones ≡ map placing d.zones
+  pub others : (m : ℕ) → (m ≡ n → ⊥) → settings_of (get_or b.zones m no_zone) ≡ settings_of (get_or d.zones m no_zone)
+  pub areas : b.areas ≡ d.areas
+  pub edges : b.edges ≡ d.edges
+  pub rules : b.rules ≡ d.rules
+
+-- a clearance that changes leaves each task untouched that isn't of the zone, and that no task of the zone reaches, on the
+-- board before or after
+abbrev pub SettingsLaw : Type 0
+SettingsLaw =
+    (b d : Board) (n : ℕ) → IsSameButZone b d n → 1 ≤ d.rules.floor → (k : ℕ) → ((task_at d k).zone ≡ n → ⊥)
+    → ((j : ℕ) → (task_at d j).zone ≡ n → IsReaching b j k ⊎ IsReaching d j k → ⊥)
     → IsUntouched b d (λ (j : ℕ). j) k

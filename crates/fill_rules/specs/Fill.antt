@@ -26,7 +26,8 @@ pub record Fits (b : Board) (i : ℕ) (o : Bounds) : Type 0 where
   pub covered : (p : PlanePoint) → StrictlyIn o p → Covers (edges_of (zone_at b i).outline) p
   pub free : (p : PlanePoint) → StrictlyIn o p → (a : Area) → IsOneOf a b.areas → has_layer a.layers (layer_at b i) ≡ true → StrictlyCovers (edges_of a.outline) p → ⊥
 
--- the octagon is near, at the need, to no foreign item, board edge or unjoined pad, and to no fill of a foreign task above it on the layer
+-- the octagon is near, at the need, to no foreign item, board edge or unjoined pad, and to no fill of a foreign task above
+-- it on the layer
 pub record IsClear (b : Board) (above : Fills) (i : ℕ) (o : Bounds) : Type 0 where
   pub items : (n : Need) → IsOneOf n (item_needs b (zone_at b i) (layer_at b i)) → AreNear n.need o n.oct → ⊥
   pub fills : (j : ℕ) → j < i → layer_at b j ≡ layer_at b i → is_foreign (zone_at b j).net (zone_at b i).net ≡ true

@@ -50,6 +50,10 @@ WholeLaw =
 abbrev pub TogetherLaw : Type 0
 TogetherLaw = (b : Board) (i : ℕ) (c d : Point) → IsKept b (fill_of b) i c → Reaches (IsLinked b (fill_of b) i) c d → IsKept b (fill_of b) i d
 
+-- past the last rank there is no fill
+abbrev pub NoFillLaw : Type 0
+NoFillLaw = (b : Board) → IsSound b → (i : ℕ) (p : PlanePoint) → length (ranked b) ≤ i → fill_of b i p → ⊥
+
 -- each fill meets the rules over the fills above it
 abbrev pub FillLaw : Type 0
 FillLaw = (b : Board) (i : ℕ) (p : PlanePoint) → fill_of b i p ↔ InFill b (fill_of b) i p

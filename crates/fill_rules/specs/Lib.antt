@@ -12,4 +12,5 @@ pub mod Lists
 pub mod Ranking
 pub mod Distance
 pub mod InWords
+pub mod Rows
 pub mod Laws

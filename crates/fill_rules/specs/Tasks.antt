@@ -56,8 +56,8 @@ no_zone =
       line = 0;
     }
 
-abbrev pub no_task : Task
-no_task = record { zone = 0; layer = 0 }
+abbrev pub no_task : Board → Task
+no_task b = record { zone = length b.zones; layer = 0 }
 
 -- a set of layers is a number, its lowest bit the first layer
 abbrev pub has_layer : ℕ → ℕ → Bool
@@ -94,7 +94,7 @@ ranked b = put_all b (tasks_from (length b.layers) 0 b.zones)
 
 -- the task of rank i
 unfoldable pub task_at : Board → ℕ → Task
-task_at b i = get_or (ranked b) i no_task
+task_at b i = get_or (ranked b) i (no_task b)
 
 -- its zone's settings, and its layer
 unfoldable pub zone_at : Board → ℕ → Settings

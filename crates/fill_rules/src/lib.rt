@@ -4,9 +4,10 @@
 #![tactic(auto)]
 
 ghost use Rattle.fill_rules.specs.InWords.{ForeignLaw, UnitsLaw, ItemNeedLaw, ZoneNeedLaw, AnchorsLaw, SpokesLaw, GapLaw, CopperKeptLaw, EdgeKeptLaw, ArcKeptLaw, ZoneKeptLaw};
-ghost use Rattle.fill_rules.specs.Edits.{DirectLaw};
+ghost use Rattle.fill_rules.specs.Edits.{DirectLaw, SettingsLaw};
+ghost use Rattle.fill_rules.specs.Rows.{SpokesRow, RankRow, PadNeedRow, TrackNeedRow, EdgeNeedRow, BrushRow};
 ghost use Rattle.fill_rules.specs.Sound.{SoundLaw};
-ghost use Rattle.fill_rules.specs.Laws.{NearLaw, ClearLaw, RankingLaw, FrameLaw, KeptLaw, ComponentLaw, WholeLaw, TogetherLaw, FillLaw, FillFrameLaw, SpokeFrameLaw, ListLaw, OneLaw, ReachLaw, ReachedLaw, CleanLaw, SameLaw, PartsLaw, DistanceLaw};
+ghost use Rattle.fill_rules.specs.Laws.{NearLaw, ClearLaw, RankingLaw, FrameLaw, KeptLaw, ComponentLaw, WholeLaw, TogetherLaw, FillLaw, NoFillLaw, FillFrameLaw, SpokeFrameLaw, ListLaw, OneLaw, ReachLaw, ReachedLaw, CleanLaw, SameLaw, PartsLaw, DistanceLaw};
 
 /// Points that are near at a need are near at a greater one, so what keeps a need keeps each lesser one.
 pub fn near_law()
@@ -58,9 +59,10 @@ pub fn sound_law()
     ensures { SoundLaw }
 {}
 
-/// Each fill meets the rules over the fills above it; it lies in the frame of its outline, and so do its live spokes.
+/// Each fill meets the rules over the fills above it, and past the last rank there is none; it lies in the frame of its outline, and so do its live spokes.
 pub fn fill_law()
     ensures rules { FillLaw }
+    ensures none { NoFillLaw }
     ensures frame { FillFrameLaw }
     ensures spokes { SpokeFrameLaw }
 {}
@@ -85,9 +87,11 @@ pub fn clean_law()
     ensures fill { SameLaw }
 {}
 
-/// A task that no track or via which came or went comes near to, at the need and whatever the nets, is untouched.
+/// A task is untouched that no track or via which came or went comes near to, at the need and whatever the nets; and, where a
+/// zone's settings changed, that is of another zone and reached by none of its tasks, before or after.
 pub fn direct_law()
-    ensures { DirectLaw }
+    ensures copper { DirectLaw }
+    ensures settings { SettingsLaw }
 {}
 
 /// Pieces have one label exactly where they are in one part.
@@ -108,4 +112,14 @@ pub fn clearance_law()
     ensures edge { EdgeKeptLaw }
     ensures arc { ArcKeptLaw }
     ensures zones { ZoneKeptLaw }
+{}
+
+/// What the rules give for boards that are worked by hand.
+pub fn rows()
+    ensures spokes { SpokesRow }
+    ensures rank { RankRow }
+    ensures pad { PadNeedRow }
+    ensures track { TrackNeedRow }
+    ensures edge { EdgeNeedRow }
+    ensures brush { BrushRow }
 {}
