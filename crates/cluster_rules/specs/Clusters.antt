@@ -1,0 +1,123 @@
+-- Which nodes touch, the clusters that they make, and where ratsnest lines may end.
+use Rattle.std.specs.Prelude.{◌≡◌, ◌⊎◌, ℕ, zero, suc, ◌+◌, ◌*◌, ◌^◌, ◌<◌, ◌≤◌, Bool, true, false, ◌||◌, ◌&&◌, ◌==◌, int_lt, cond, List, [], ◌∷◌, ◌++◌, map, flat_map, filter, length, get_or, zip, Option, Some, None, slice_get, ℤ, pos, ◌*ℤ◌}
+use Rattle.plane.specs.Plane.{Bounds, times}
+use Rattle.grid_num.specs.declared.Point.{Point}
+use Rattle.covering.specs.Corners.{corners_of}
+use Rattle.touching.specs.Core.{Core, area, Touches}
+use Rattle.copper_shape.specs.Shapes.{Copper}
+use Rattle.classes.specs.Classes.{IsOneOf, Reaches, IsLeastOf}
+use Rattle.board_language.specs.Board.{Board}
+use Rattle.ratsnest.specs.declared.Anchor.{Anchor}
+use Rattle.fill_rules.specs.Tasks.{Task, has_layer, zone_of}
+use Rattle.fill_rules.specs.Needs.{track_copper, via_copper}
+use Rattle.cluster_rules.specs.Nodes.{Node, pad, track, via, part, Made, made_of, nodes_of}
+
+-- ---- what a node is made of
+
+abbrev pub option_list : {X Y : Type 0} → (X → List Y) → Option X → List Y
+option_list f None = []
+option_list f (Some x) = f x
+
+-- the pieces of a part: those with its first piece as their label
+abbrev pub labelled : ℕ → List Bounds → List ℕ → List Bounds
+labelled first [] labels = []
+labelled first (o ∷ os) [] = []
+labelled first (o ∷ os) (label ∷ labels) = cond (label == first) (o ∷ labelled first os labels) (labelled first os labels)
+
+unfoldable pub pieces_of : Board → List Made → Task → ℕ → List Bounds
+pieces_of b fills t first = labelled first (made_of b fills t).pieces (made_of b fills t).parts
+
+-- an octagon of units, as copper in halves
+abbrev pub octagon_copper : Bounds → Copper
+octagon_copper o = record { core = area (times 4 o); radius = 0 }
+
+-- a pad, a track and a via are one shape, a part is each of its pieces
+unfoldable pub shapes_of : Board → List Made → Node → List Copper
+shapes_of b fills (pad k) = option_list (λ p. p.shape ∷ []) (slice_get b.pads k)
+shapes_of b fills (track k) = option_list (λ t. track_copper t ∷ []) (slice_get b.tracks k)
+shapes_of b fills (via k) = option_list (λ v. via_copper v ∷ []) (slice_get b.vias k)
+shapes_of b fills (part t first) = map octagon_copper (pieces_of b fills t first)
+
+abbrev pub option_or_zero : {X : Type 0} → (X → ℕ) → Option X → ℕ
+option_or_zero f None = 0
+option_or_zero f (Some x) = f x
+
+unfoldable pub net_of : Board → Node → ℕ
+net_of b (pad k) = option_or_zero (λ p. p.net) (slice_get b.pads k)
+net_of b (track k) = option_or_zero (λ t. t.net) (slice_get b.tracks k)
+net_of b (via k) = option_or_zero (λ v. v.net) (slice_get b.vias k)
+net_of b (part t first) = (zone_of b t).net
+
+-- the set of layers that a node has copper on; the lowest bit is the first layer
+unfoldable pub layers_of : Board → Node → ℕ
+layers_of b (pad k) = option_or_zero (λ p. p.layers) (slice_get b.pads k)
+layers_of b (track k) = option_or_zero (λ t. 2 ^ t.layer) (slice_get b.tracks k)
+layers_of b (via k) = option_or_zero (λ v. v.layers) (slice_get b.vias k)
+layers_of b (part t first) = 2 ^ t.layer
+
+-- ---- touching and clusters
+
+-- two shapes touch where some points of their cores are no farther apart than both radii
+unfoldable pub AreTouching : Copper → Copper → Type 0
+AreTouching c d = Touches (c.radius + d.radius) c.core d.core
+
+-- two nodes of one net are joined where they share a layer and some shape of the one touches some shape of the other
+pub record AreJoined (b : Board) (fills : List Made) (m n : Node) : Type 0 where
+  pub net : net_of b m ≡ net_of b n
+  pub layer : (l : ℕ) × (has_layer (layers_of b m) l ≡ true) × (has_layer (layers_of b n) l ≡ true)
+  pub touch : (c : Copper) × (d : Copper) × IsOneOf c (shapes_of b fills m) × IsOneOf d (shapes_of b fills n) × AreTouching c d
+
+-- nodes by their numbers
+pub record AreJoinedAt (b : Board) (fills : List Made) (i j : ℕ) : Type 0 where
+  pub first : Node
+  pub second : Node
+  pub at_first : slice_get (nodes_of b fills) i ≡ Some first
+  pub at_second : slice_get (nodes_of b fills) j ≡ Some second
+  pub joined : AreJoined b fills first second
+
+-- a cluster is what can be reached from touching to touching
+unfoldable pub IsOneCluster : Board → List Made → ℕ → ℕ → Type 0
+IsOneCluster b fills i j = Reaches (AreJoinedAt b fills) i j
+
+abbrev pub IsUpTo : ℕ → ℕ → Type 0
+IsUpTo i j = i ≤ j
+
+-- each node is labelled with the least number of its cluster
+pub record AreClusters (b : Board) (fills : List Made) (labels : List ℕ) : Type 0 where
+  pub each : length labels ≡ length (nodes_of b fills)
+  pub least : (i : ℕ) → i < length labels → IsLeastOf (AreJoinedAt b fills) IsUpTo i (get_or labels i 0)
+
+-- ---- where ratsnest lines may end, in nanometres
+
+-- least y, then least x
+abbrev pub lesser : Point → Point → Point
+lesser p q = cond (int_lt q.y p.y || (not_lt p.y q.y && int_lt q.x p.x)) q p
+  where
+    not_lt : ℤ → ℤ → Bool
+    not_lt a c = cond (int_lt a c) false true
+
+abbrev pub least_corner : Point → List Point → Point
+least_corner p [] = p
+least_corner p (q ∷ qs) = lesser p (least_corner q qs)
+
+abbrev pub in_nm : Point → Point
+in_nm p = record { x = pos 2 *ℤ p.x; y = pos 2 *ℤ p.y }
+
+abbrev pub least_of : List Point → List Point
+least_of [] = []
+least_of (p ∷ ps) = in_nm (least_corner p ps) ∷ []
+
+-- a pad's and a via's centre, both ends of a track, and the least corner among the octagons of a part
+unfoldable pub ends_of : Board → List Made → Node → List Point
+ends_of b fills (pad k) = option_list (λ p. p.at ∷ []) (slice_get b.pads k)
+ends_of b fills (track k) = option_list (λ t. t.from ∷ t.to ∷ []) (slice_get b.tracks k)
+ends_of b fills (via k) = option_list (λ v. v.at ∷ []) (slice_get b.vias k)
+ends_of b fills (part t first) = least_of (flat_map corners_of (pieces_of b fills t first))
+
+-- a node's anchors, each with the cluster's label
+abbrev pub node_anchors : Board → List Made → ℕ → (Node × ℕ) → List Anchor
+node_anchors b fills net n = cond (net_of b n.0 == net) (map (λ p. record { at = p; cluster = n.1 }) (ends_of b fills n.0)) []
+
+-- the anchors of a net, in the order of its nodes
+unfoldable pub anchors_of : Board → List Made → List ℕ → ℕ → List Anchor
+anchors_of b fills labels net = flat_map (node_anchors b fills net) (zip (nodes_of b fills) labels)

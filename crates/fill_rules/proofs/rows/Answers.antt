@@ -1,0 +1,28 @@
+use Rattle.std.proofs.Common.{refl}
+use Rattle.hulls.specs.Cells.{floor_of, ceil_of, cell_of, cells_of, around}
+use Rattle.hulls.specs.Hulls.{hull_of, hulls_of}
+use Rattle.plane.specs.Plane.{ball_of, up2_of}
+use Rattle.fill_rules.specs.Tasks.{ranked, zone_of}
+use Rattle.fill_rules.specs.Needs.{pad_hulls}
+use Rattle.fill_rules.specs.Reliefs.{pad_spokes}
+use Rattle.fill_rules.proofs.rows.Goals as goal
+
+pub returns-clause-spokes : goal.returns-clause-spokes
+unfolding pad_spokes pad_hulls hulls_of hull_of around cells_of cell_of floor_of ceil_of ball_of up2_of
+returns-clause-spokes c = refl
+
+pub returns-clause-rank : goal.returns-clause-rank
+unfolding ranked zone_of
+returns-clause-rank c = refl
+
+pub returns-clause-pad : goal.returns-clause-pad
+returns-clause-pad c = refl
+
+pub returns-clause-track : goal.returns-clause-track
+returns-clause-track c = refl
+
+pub returns-clause-edge : goal.returns-clause-edge
+returns-clause-edge c = refl
+
+pub returns-clause-brush : goal.returns-clause-brush
+returns-clause-brush c = refl

@@ -1,0 +1,16 @@
+pub mod Tasks
+pub mod Needs
+pub mod Reliefs
+pub mod Anchors
+pub mod Reach
+pub mod Fill
+pub mod Parts
+pub mod Sound
+pub mod Dirty
+pub mod Edits
+pub mod Lists
+pub mod Ranking
+pub mod Distance
+pub mod InWords
+pub mod Rows
+pub mod Laws
