@@ -45,7 +45,11 @@ fn has_version(alloc: Global, board: &Part<'_>) -> Result<bool, Memory>
 ///
 /// Want of memory.
 #[tactic(auto, unfolding(board_language::specs::Offences::board_kind))]
-pub fn board_kind(alloc: Global, known: &Known, board: &Part<'_>) -> Result<Option<OffenceKind>, Memory>
+pub fn board_kind(
+    alloc: Global,
+    known: &Known,
+    board: &Part<'_>,
+) -> Result<Option<OffenceKind>, Memory>
     ensures { IfOk result (λ k. k ≡ board_kind (context board.now.bytes known.now) board.now.item) }
 {
     let version = has_version(alloc, board)?;
@@ -62,7 +66,13 @@ pub fn board_kind(alloc: Global, known: &Known, board: &Part<'_>) -> Result<Opti
 ///
 /// Want of memory.
 #[tactic(auto, unfolding(board_language::specs::Offences::net_kind))]
-pub fn net_kind(alloc: Global, known: &Known, net: &Part<'_>, double: bool, many: bool) -> Result<Option<OffenceKind>, Memory>
+pub fn net_kind(
+    alloc: Global,
+    known: &Known,
+    net: &Part<'_>,
+    double: bool,
+    many: bool,
+) -> Result<Option<OffenceKind>, Memory>
     ensures { IfOk result (λ k. k ≡ net_kind (context net.now.bytes known.now) net.now.item double many) }
 {
     let fault = net.whole_fault_at(alloc, 0)?;

@@ -3,7 +3,6 @@ ghost use Rattle.std.specs.Prelude.{◌≡◌, ℕ, ◌≤◌, ◌∷◌, [], �
 ghost use Rattle.board_language.specs.Items.{line_of, is_unknown_net, net_of};
 ghost use Rattle.board_language.specs.Tracks.{track_of, track_fault, via_of, via_fault, layer_names, name_at};
 ghost use Rattle.board_language.specs.Offences.{lacks, has_short, track_lacks, via_lacks, has_bad_size, track_kind, via_kind};
-
 ghost use Rattle.board_items.specs.Known.{context};
 
 use crate::Known;
@@ -134,7 +133,13 @@ pub fn is_unknown_net(alloc: Global, known: &Known, item: &Part<'_>) -> Result<b
 ///
 /// Want of memory.
 #[tactic(auto, unfolding(board_language::specs::Offences::track_kind))]
-pub fn track_kind(alloc: Global, known: &Known, item: &Part<'_>, double: bool, many: bool) -> Result<Option<OffenceKind>, Memory>
+pub fn track_kind(
+    alloc: Global,
+    known: &Known,
+    item: &Part<'_>,
+    double: bool,
+    many: bool,
+) -> Result<Option<OffenceKind>, Memory>
     ensures { IfOk result (λ k. k ≡ track_kind (context item.now.bytes known.now) item.now.item double many) }
 {
     let lacks = track_lacks(alloc, item)?;
@@ -160,7 +165,13 @@ pub fn track_kind(alloc: Global, known: &Known, item: &Part<'_>, double: bool, m
 ///
 /// Want of memory.
 #[tactic(auto, unfolding(board_language::specs::Offences::via_kind))]
-pub fn via_kind(alloc: Global, known: &Known, item: &Part<'_>, double: bool, many: bool) -> Result<Option<OffenceKind>, Memory>
+pub fn via_kind(
+    alloc: Global,
+    known: &Known,
+    item: &Part<'_>,
+    double: bool,
+    many: bool,
+) -> Result<Option<OffenceKind>, Memory>
     ensures { IfOk result (λ k. k ≡ via_kind (context item.now.bytes known.now) item.now.item double many) }
 {
     let lacks = via_lacks(alloc, item)?;
