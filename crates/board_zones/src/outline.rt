@@ -11,6 +11,7 @@ use crate::lists::{corner_lists, count_headed};
 use board_items::{has_other_point, has_short_point, points_fault, points_of};
 use board_parts::Part;
 use grid_num::{Memory, NumFault, Point};
+use outline_slab::laws::no_fault;
 use outline_slab::{Outline, OutlineError, OutlineFault};
 use std::alloc::Global;
 
@@ -85,6 +86,24 @@ fn corners_of(alloc: Global, zone: &Part<'_>) -> Result<Vec<Point>, Memory>
 {
     let lists = corner_lists(alloc, zone)?;
     points_of(alloc, &lists)
+}
+
+/// The outline of corners that break no rule.
+///
+/// # Errors
+///
+/// Want of memory.
+pub fn outline_of(alloc: Global, zone: &Part<'_>) -> Result<Outline, Memory>
+    requires { IsOutline (corners_of zone.now.bytes zone.now.item) }
+    ensures { IfOk result (λ o. o ≡ outline_of zone.now.bytes zone.now.item) }
+{
+    no_fault();
+    let corners = corners_of(alloc, zone)?;
+    match Outline::make(alloc, &corners) {
+        Ok(outline) => Ok(outline),
+        Err(OutlineError::Bad(_)) => unreachable!(),
+        Err(OutlineError::Memory) => Err(Memory),
+    }
 }
 
 /// Why the outline is refused, or that it isn't.
