@@ -20,9 +20,13 @@ pub record IsAreaKind (c : Context) (zone : Item) (double many : Bool) (kind : O
   pub is_kind : kind ≡ area_kind c zone outline double many
 
 -- nothing offends in the zone that is read
-abbrev pub IsSoundZone : Context → Item → Type 0
-IsSoundZone c zone = (double : Bool) × (many : Bool) × IsZoneKind c zone double many None
+pub record IsSoundZone (c : Context) (zone : Item) : Type 0 where
+  pub double : Bool
+  pub many : Bool
+  pub none : IsZoneKind c zone double many None
 
 -- nothing offends in the rule area that is read
-abbrev pub IsSoundArea : Context → Item → Type 0
-IsSoundArea c zone = (double : Bool) × (many : Bool) × IsAreaKind c zone double many None
+pub record IsSoundArea (c : Context) (zone : Item) : Type 0 where
+  pub double : Bool
+  pub many : Bool
+  pub none : IsAreaKind c zone double many None
