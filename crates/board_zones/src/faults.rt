@@ -31,7 +31,9 @@ pub fn zone_fault(alloc: Global, zone: &Part<'_>) -> Result<Option<NumFault>, Me
     let bridge = length_fault_inside(alloc, zone, b"fill", b"thermal_bridge_width")?;
     let mode = whole_fault_inside(alloc, zone, b"fill", b"island_removal_mode")?;
     let corners = corners_fault(alloc, zone)?;
-    Ok(first_of(&[net, priority, clearance, thickness, gap, bridge, mode, corners]))
+    Ok(first_of(&[
+        net, priority, clearance, thickness, gap, bridge, mode, corners,
+    ]))
 }
 
 fn has_bare_list(zone: &Part<'_>) -> bool
@@ -74,5 +76,10 @@ pub fn zone_is_bad(alloc: Global, zone: &Part<'_>) -> Result<bool, Memory>
     let thickness = thickness_in(alloc, zone)?;
     let gap = gap_in(alloc, zone)?;
     let bridge = bridge_in(alloc, zone)?;
-    Ok(is_no_length(clearance) || is_no_length(thickness) || is_no_length(gap) || is_no_length(bridge))
+    Ok(
+        is_no_length(clearance)
+            || is_no_length(thickness)
+            || is_no_length(gap)
+            || is_no_length(bridge),
+    )
 }

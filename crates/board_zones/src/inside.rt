@@ -14,7 +14,12 @@ use std::alloc::Global;
 /// # Errors
 ///
 /// Want of memory.
-pub fn length_fault_inside(alloc: Global, zone: &Part<'_>, outer: &[u8], name: &[u8]) -> Result<Option<NumFault>, Memory>
+pub fn length_fault_inside(
+    alloc: Global,
+    zone: &Part<'_>,
+    outer: &[u8],
+    name: &[u8],
+) -> Result<Option<NumFault>, Memory>
     ensures { IfOk result (λ f. f ≡ length_fault_at zone.now.bytes 0 (list_in zone.now.bytes outer.now name.now zone.now.item)) }
 {
     match zone.list_in(outer, name) {
@@ -28,7 +33,12 @@ pub fn length_fault_inside(alloc: Global, zone: &Part<'_>, outer: &[u8], name: &
 /// # Errors
 ///
 /// Want of memory.
-pub fn whole_fault_inside(alloc: Global, zone: &Part<'_>, outer: &[u8], name: &[u8]) -> Result<Option<NumFault>, Memory>
+pub fn whole_fault_inside(
+    alloc: Global,
+    zone: &Part<'_>,
+    outer: &[u8],
+    name: &[u8],
+) -> Result<Option<NumFault>, Memory>
     ensures { IfOk result (λ f. f ≡ whole_fault_at zone.now.bytes 0 (list_in zone.now.bytes outer.now name.now zone.now.item)) }
 {
     match zone.list_in(outer, name) {
@@ -52,7 +62,13 @@ pub fn is_bare_inside(zone: &Part<'_>, outer: &[u8], name: &[u8]) -> bool
 /// # Errors
 ///
 /// Want of memory.
-pub fn says_inside(alloc: Global, zone: &Part<'_>, outer: &[u8], name: &[u8], text: &[u8]) -> Result<bool, Memory>
+pub fn says_inside(
+    alloc: Global,
+    zone: &Part<'_>,
+    outer: &[u8],
+    name: &[u8],
+    text: &[u8],
+) -> Result<bool, Memory>
     ensures { IfOk result (λ yes. yes ≡ passes (says_at zone.now.bytes 0 text.now) (list_in zone.now.bytes outer.now name.now zone.now.item)) }
 {
     match zone.list_in(outer, name) {
@@ -82,7 +98,13 @@ pub fn length_first(alloc: Global, list: &Part<'_>, absent: i64) -> Result<i64, 
 /// # Errors
 ///
 /// Want of memory.
-pub fn length_inside(alloc: Global, zone: &Part<'_>, outer: &[u8], name: &[u8], absent: i64) -> Result<i64, Memory>
+pub fn length_inside(
+    alloc: Global,
+    zone: &Part<'_>,
+    outer: &[u8],
+    name: &[u8],
+    absent: i64,
+) -> Result<i64, Memory>
     requires { IsInRange absent }
     ensures value { IfOk result (λ nm. nm ≡ length_or absent zone.now.bytes (list_in zone.now.bytes outer.now name.now zone.now.item)) }
     ensures range { IfOk result IsInRange }

@@ -74,7 +74,14 @@ fn outline_kind(fault: Option<OutlineFault>) -> Option<OffenceKind>
 /// The first offence of a rule area that is read, where its outline is refused for this, with another of its stamp
 /// before or not, and one too many or not.
 #[tactic(auto, unfolding(board_language::specs::Offences::area_kind))]
-fn kind_of_area(alloc: Global, known: &Known, zone: &Part<'_>, outline: Option<OutlineFault>, double: bool, many: bool) -> Result<Option<OffenceKind>, Memory>
+fn kind_of_area(
+    alloc: Global,
+    known: &Known,
+    zone: &Part<'_>,
+    outline: Option<OutlineFault>,
+    double: bool,
+    many: bool,
+) -> Result<Option<OffenceKind>, Memory>
     ensures { IfOk result (λ k. k ≡ area_kind (context zone.now.bytes known.now) zone.now.item outline double many) }
 {
     let arc = has_arc(alloc, zone)?;
@@ -99,7 +106,13 @@ fn kind_of_area(alloc: Global, known: &Known, zone: &Part<'_>, outline: Option<O
 /// # Errors
 ///
 /// Want of memory.
-pub fn area_kind(alloc: Global, known: &Known, zone: &Part<'_>, double: bool, many: bool) -> Result<Option<OffenceKind>, Memory>
+pub fn area_kind(
+    alloc: Global,
+    known: &Known,
+    zone: &Part<'_>,
+    double: bool,
+    many: bool,
+) -> Result<Option<OffenceKind>, Memory>
     ensures { IfOk result (IsAreaKind (context zone.now.bytes known.now) zone.now.item double many) }
 {
     let outline = outline_result(alloc, zone)?;
@@ -108,7 +121,14 @@ pub fn area_kind(alloc: Global, known: &Known, zone: &Part<'_>, double: bool, ma
 
 /// The first offence of a zone that is read, where its outline is refused for this.
 #[tactic(auto, unfolding(board_language::specs::Offences::zone_kind))]
-fn kind_of_zone(alloc: Global, known: &Known, zone: &Part<'_>, outline: Option<OutlineFault>, double: bool, many: bool) -> Result<Option<OffenceKind>, Memory>
+fn kind_of_zone(
+    alloc: Global,
+    known: &Known,
+    zone: &Part<'_>,
+    outline: Option<OutlineFault>,
+    double: bool,
+    many: bool,
+) -> Result<Option<OffenceKind>, Memory>
     ensures { IfOk result (λ k. k ≡ zone_kind (context zone.now.bytes known.now) zone.now.item outline double many) }
 {
     let teardrop = has_teardrop(alloc, zone)?;
@@ -147,7 +167,13 @@ fn kind_of_zone(alloc: Global, known: &Known, zone: &Part<'_>, outline: Option<O
 /// # Errors
 ///
 /// Want of memory.
-pub fn zone_kind(alloc: Global, known: &Known, zone: &Part<'_>, double: bool, many: bool) -> Result<Option<OffenceKind>, Memory>
+pub fn zone_kind(
+    alloc: Global,
+    known: &Known,
+    zone: &Part<'_>,
+    double: bool,
+    many: bool,
+) -> Result<Option<OffenceKind>, Memory>
     ensures { IfOk result (IsZoneKind (context zone.now.bytes known.now) zone.now.item double many) }
 {
     let outline = outline_result(alloc, zone)?;

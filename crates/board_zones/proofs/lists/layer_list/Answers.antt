@@ -20,8 +20,8 @@ pub each-preserved : goal.each-preserved
 each-preserved c =
     elim c.else-is_list.branch [
       | else-is_list-via-then-is_list+else-is_layer_list w ↦ found_not_p (is_layers c.args.zone.now.bytes) is_list (children_of c.args.zone.now.item) c.each.place c.child-child.result.item (layer_list c.args.zone.now.bytes c.args.zone.now.item)
-        (omega (arith, c.each-test.true, c.len-place-end.ensures)) c.child-child.ensures.item
-        (ap (λ b. is_layers b c.child-child.result.item) (sym c.child-child.ensures.bytes) ∙ sym w.is_layer_list.ensures ∙ w.if-is_layer_list.false) c.each.invariant
+          (omega (arith, c.each-test.true, c.len-place-end.ensures)) c.child-child.ensures.item
+          (ap (λ b. is_layers b c.child-child.result.item) (sym c.child-child.ensures.bytes) ∙ sym w.is_layer_list.ensures ∙ w.if-is_layer_list.false) c.each.invariant
       | else-is_list-via-else-is_list w ↦ found_not_q (is_layers c.args.zone.now.bytes) is_list (children_of c.args.zone.now.item) c.each.place c.child-child.result.item (layer_list c.args.zone.now.bytes c.args.zone.now.item)
-        (omega (arith, c.each-test.true, c.len-place-end.ensures)) c.child-child.ensures.item (sym c.is_list.ensures ∙ w.if-is_list.false) c.each.invariant
+          (omega (arith, c.each-test.true, c.len-place-end.ensures)) c.child-child.ensures.item (sym c.is_list.ensures ∙ w.if-is_list.false) c.each.invariant
     ]

@@ -12,14 +12,14 @@ each-preserved c =
     let all = map span_of (filter (is_fill c.args.zone.now.bytes) (lists_of c.args.zone.now.item)) in
     elim c.if-is_list.branch [
       | then-is_list+then-is_fill+in_ok-push w ↦ rw (w.spans-is, w.in_ok-push.ensures.items, w.span.ensures.from, w.span.ensures.to)
-        (taken_more span_of (is_fill c.args.zone.now.bytes) is_list (children_of c.args.zone.now.item) c.each.place c.child-child.result.item c.each.spans.items all
-        (omega (arith, c.each-test.true, c.len-place-end.ensures)) c.child-child.ensures.item (sym c.is_list.ensures ∙ w.if-is_list.true)
-        (ap (λ b. is_fill b c.child-child.result.item) (sym c.child-child.ensures.bytes) ∙ sym w.is_fill.ensures ∙ w.if-is_fill.true) c.each.invariant)
+          (taken_more span_of (is_fill c.args.zone.now.bytes) is_list (children_of c.args.zone.now.item) c.each.place c.child-child.result.item c.each.spans.items all
+          (omega (arith, c.each-test.true, c.len-place-end.ensures)) c.child-child.ensures.item (sym c.is_list.ensures ∙ w.if-is_list.true)
+          (ap (λ b. is_fill b c.child-child.result.item) (sym c.child-child.ensures.bytes) ∙ sym w.is_fill.ensures ∙ w.if-is_fill.true) c.each.invariant)
       | else-is_list w ↦ rw w.spans-is (elim w.else-is_list.branch [
         | else-is_list-via-then-is_list+else-is_fill v ↦ taken_not_p span_of (is_fill c.args.zone.now.bytes) is_list (children_of c.args.zone.now.item) c.each.place c.child-child.result.item c.each.spans.items all
-          (omega (arith, c.each-test.true, c.len-place-end.ensures)) c.child-child.ensures.item
-          (ap (λ b. is_fill b c.child-child.result.item) (sym c.child-child.ensures.bytes) ∙ sym v.is_fill.ensures ∙ v.if-is_fill.false) c.each.invariant
+            (omega (arith, c.each-test.true, c.len-place-end.ensures)) c.child-child.ensures.item
+            (ap (λ b. is_fill b c.child-child.result.item) (sym c.child-child.ensures.bytes) ∙ sym v.is_fill.ensures ∙ v.if-is_fill.false) c.each.invariant
         | else-is_list-via-else-is_list v ↦ taken_not_q span_of (is_fill c.args.zone.now.bytes) is_list (children_of c.args.zone.now.item) c.each.place c.child-child.result.item c.each.spans.items all
-          (omega (arith, c.each-test.true, c.len-place-end.ensures)) c.child-child.ensures.item (sym c.is_list.ensures ∙ v.if-is_list.false) c.each.invariant
+            (omega (arith, c.each-test.true, c.len-place-end.ensures)) c.child-child.ensures.item (sym c.is_list.ensures ∙ v.if-is_list.false) c.each.invariant
       ])
     ]
