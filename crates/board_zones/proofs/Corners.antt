@@ -1,10 +1,8 @@
 -- The corners of an outline, through the parts of the text that they are read from.
-use Rattle.std.proofs.Common.{◌≡◌, ℕ, Bool, List, map, refl, sym, ap, ◌∙◌, Option, Some}
+use Rattle.std.proofs.Common.{◌≡◌, ℕ, Bool, List, map, refl, sym, ap, ◌∙◌, Some}
 use Rattle.std.specs.List.{list_any}
 use Rattle.std.proofs.lemmas.Simd.{map-map}
 use Rattle.sexpr_text.specs.Items.{Item}
-use Rattle.grid_num.specs.declared.Point.{Point}
-use Rattle.grid_num.specs.declared.read.NumFault.{NumFault}
 use Rattle.text_items.specs.Parts.{Part, part_of}
 use Rattle.board_parts.proofs.Walks.{any_of_map}
 use Rattle.board_language.specs.Numbers.{first_of, point_fault}

@@ -1,5 +1,5 @@
 -- The first word that says how pads are joined.
-use Rattle.std.proofs.Common.{◌≡◌, ℕ, ◌+◌, ◌<◌, ◌≤◌, List, length, map, drop, get_or, refl, sym, ap, ◌∙◌, Option, Some, None}
+use Rattle.std.proofs.Common.{◌≡◌, ℕ, ◌+◌, ◌<◌, List, length, map, drop, get_or, sym, ap, ◌∙◌, Some, None}
 use Rattle.std.specs.Prelude.{unwrap_or}
 use Rattle.board_language.specs.declared.Join.{Join}
 use Rattle.board_language.specs.Zones.{first_join, join_by_word}

@@ -1,5 +1,5 @@
 -- Where nothing offends, the corners are an outline; and an outline in units is that of the corners.
-use Rattle.std.proofs.Common.{◌≡◌, ℕ, zero, suc, ◌+◌, ◌*◌, ◌/◌, Bool, true, false, List, [], ◌∷◌, map, get_or, ◌||◌, refl, sym, ap, ◌∙◌, subst, arith, Option, Some, None, is_some, option_map}
+use Rattle.std.proofs.Common.{◌≡◌, ℕ, zero, suc, ◌+◌, ◌*◌, ◌/◌, Bool, List, [], ◌∷◌, map, get_or, ◌||◌, refl, sym, ap, ◌∙◌, subst, arith, Option, Some, None, is_some}
 use Rattle.std.specs.Prelude.{nat_lt, ℤ, pos, negsuc, ◌*ℤ◌}
 use Rattle.std.specs.Int.{int_div_euclid}
 use Rattle.std.specs.Option.{option_or}

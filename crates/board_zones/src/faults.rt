@@ -1,7 +1,7 @@
 // The numbers of a zone that can't be read, or that lack or are out of their range.
-ghost use Rattle.std.specs.Prelude.{◌≡◌, ◌||◌, ◌∷◌, [], codes, map, IfOk};
+ghost use Rattle.std.specs.Prelude.{◌≡◌, ◌||◌, ◌∷◌, [], codes, IfOk};
 ghost use Rattle.std.specs.List.{list_any};
-ghost use Rattle.board_language.specs.Numbers.{first_of, is_short, whole_fault_at, length_fault_at};
+ghost use Rattle.board_language.specs.Numbers.{first_of, is_short};
 ghost use Rattle.board_language.specs.Items.{is_no_length};
 ghost use Rattle.board_language.specs.Zones.{zone_fault, clearance_list, gap_list, bridge_list, mode_list};
 ghost use Rattle.board_language.specs.Offences.{has_short, zone_lacks, zone_is_bad};

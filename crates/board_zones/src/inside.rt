@@ -1,7 +1,7 @@
 // What stands in the first list with one head inside the first list with another, as the `clearance` in a `connect_pads`.
 ghost use Rattle.std.specs.Prelude.{◌≡◌, Some, IfOk};
 ghost use Rattle.grid_num.specs.Length.{IsInRange};
-ghost use Rattle.board_language.specs.Fields.{list_of, list_in, says_at, passes};
+ghost use Rattle.board_language.specs.Fields.{list_in, says_at, passes};
 ghost use Rattle.board_language.specs.Numbers.{length_fault_at, whole_fault_at, is_short};
 ghost use Rattle.board_language.specs.Zones.{length_or};
 

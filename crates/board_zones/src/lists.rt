@@ -1,9 +1,9 @@
 // The lists of a zone that are found by their heads.
-ghost use Rattle.std.specs.Prelude.{◌≡◌, ◌||◌, ◌≤◌, find, length, map, codes, option_map, IfOk};
-ghost use Rattle.sexpr_text.specs.Items.{is_headed, children_of};
-ghost use Rattle.board_fields.specs.Lists.{lists_of, headed};
+ghost use Rattle.std.specs.Prelude.{◌≡◌, ◌||◌, length, map, codes, option_map, IfOk};
+ghost use Rattle.sexpr_text.specs.Items.{is_headed};
+ghost use Rattle.board_fields.specs.Lists.{headed};
 ghost use Rattle.text_items.specs.Parts.{part_of};
-ghost use Rattle.board_language.specs.Zones.{layer_list, points_list, corner_lists};
+ghost use Rattle.board_language.specs.Zones.{layer_list, corner_lists};
 
 use board_parts::Part;
 use grid_num::Memory;

@@ -1,10 +1,9 @@
 // The outline of a zone or rule area.
-ghost use Rattle.std.specs.Prelude.{◌≡◌, ◌||◌, not, map, is_none, codes, Some, IfOk};
+ghost use Rattle.std.specs.Prelude.{◌≡◌, ◌||◌, is_none, Some, IfOk};
 ghost use Rattle.std.specs.List.{All, list_any};
-ghost use Rattle.sexpr_text.specs.Items.{is_headed};
 ghost use Rattle.outline_slab.specs.Rules.{IsInSpan, IsOutline};
 ghost use Rattle.board_language.specs.Numbers.{is_short};
-ghost use Rattle.board_language.specs.Zones.{corner_lists, corners_of, corners_fault, outline_of, points_list};
+ghost use Rattle.board_language.specs.Zones.{corner_lists, corners_of, corners_fault, outline_of};
 ghost use Rattle.board_language.specs.Offences.{has_two_outlines, has_arc, outline_lacks, is_long_outline, IsOutlineResult};
 
 use crate::lists::{corner_lists, count_headed};

@@ -1,4 +1,4 @@
-use Rattle.std.proofs.Common.{◌≡◌, ◌∙◌, ap, sym, true, false, arith, length}
+use Rattle.std.proofs.Common.{◌∙◌, ap, sym, arith, length}
 use Rattle.sexpr_text.specs.Items.{is_headed, children_of}
 use Rattle.board_fields.specs.Lists.{headed}
 use Rattle.board_zones.proofs.Children.{counted_one, counted_not}

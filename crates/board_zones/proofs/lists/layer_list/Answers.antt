@@ -1,4 +1,4 @@
-use Rattle.std.proofs.Common.{◌≡◌, ◌||◌, ◌∙◌, ap, sym, true, false, arith, Bool, ℕ, List}
+use Rattle.std.proofs.Common.{◌||◌, ◌∙◌, ap, sym, arith, Bool, ℕ, List}
 use Rattle.std.specs.Prelude.{codes}
 use Rattle.sexpr_text.specs.Items.{Item, is_headed, children_of}
 use Rattle.board_fields.specs.Lists.{is_list}

@@ -1,4 +1,4 @@
-use Rattle.std.proofs.Common.{◌≡◌, ◌∙◌, not}
+use Rattle.std.proofs.Common.{◌∙◌, not}
 use Rattle.std.specs.Prelude.{codes}
 use Rattle.sexpr_text.specs.Items.{is_headed}
 use Rattle.board_language.specs.Zones.{corner_lists}

@@ -1,4 +1,4 @@
-use Rattle.std.proofs.Common.{◌≡◌, ◌∙◌, Some}
+use Rattle.std.proofs.Common.{◌∙◌, Some}
 use Rattle.board_language.specs.Numbers.{is_short}
 use Rattle.board_language.specs.Zones.{corner_lists}
 use Rattle.board_zones.proofs.Corners.{any_through}

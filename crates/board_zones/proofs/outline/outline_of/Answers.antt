@@ -1,4 +1,4 @@
-use Rattle.std.proofs.Common.{◌≡◌, ◌∙◌}
+use Rattle.std.proofs.Common.{◌∙◌}
 use Rattle.board_language.specs.Zones.{corners_of}
 use Rattle.board_zones.proofs.Sound.{units_of}
 use Rattle.board_zones.proofs.outline.outline_of.Goals as goal

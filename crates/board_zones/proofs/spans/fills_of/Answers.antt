@@ -1,4 +1,4 @@
-use Rattle.std.proofs.Common.{◌≡◌, ◌∙◌, ap, sym, true, false, arith, map, filter}
+use Rattle.std.proofs.Common.{◌∙◌, ap, sym, arith, map, filter}
 use Rattle.sexpr_text.specs.Items.{children_of}
 use Rattle.board_fields.specs.Lists.{is_list, lists_of}
 use Rattle.board_language.specs.Items.{span_of}

@@ -1,4 +1,4 @@
-use Rattle.std.proofs.Common.{◌≡◌, ◌∙◌, sym, true, false, arith}
+use Rattle.std.proofs.Common.{◌∙◌, sym, arith}
 use Rattle.board_zones.proofs.Solid.{white, solid, nothing}
 use Rattle.board_zones.proofs.spans.solid_end.Goals as goal
 
