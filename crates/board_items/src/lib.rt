@@ -3,6 +3,7 @@
 //! Lengths and places are nanometres, shapes are halves of a nanometre.
 #![tactic(auto)]
 
+mod layer_lists;
 mod layers;
 mod lists;
 mod names;
@@ -17,6 +18,7 @@ mod tests_of;
 mod thing;
 mod track;
 
+pub use layer_lists::{has_copper, has_unknown, layer_set, meant_by, meant_in, no_layers_law};
 pub use layers::{is_copper, is_on_copper, is_on_edge};
 pub use lists::{has_bad_length, has_short, is_bad_length, lacks};
 pub use names::Names;

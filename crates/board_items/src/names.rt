@@ -51,6 +51,13 @@ impl Names {
         self.names.len()
     }
 
+    /// All of them, in their order.
+    pub fn names(&self) -> &[Vec<u8>]
+        ensures { map (λ v. v.items) result.now ≡ self.now }
+    {
+        self.names.as_slice()
+    }
+
     /// Whether this is one of them.
     pub fn has(&self, name: &[u8]) -> bool
         ensures { result ≡ is_among self.now name.now }

@@ -54,6 +54,13 @@ impl<'a> Part<'a> {
         self.tree.kind(self.id)
     }
 
+    /// The bytes of its text.
+    pub fn bytes(&self) -> &'a [u8]
+        ensures { result.now ≡ self.now.bytes }
+    {
+        self.bytes
+    }
+
     /// Where it stands in its text.
     pub fn span(&self) -> Span
         ensures from { result.from ≡ self.now.item.from }

@@ -1,0 +1,63 @@
+-- Sets of layers, from the last layer to the first.
+use Rattle.std.proofs.Common.{◌≡◌, ℕ, zero, suc, ◌+◌, ◌-◌, ◌*◌, ◌<◌, ◌≤◌, Bool, true, false, cond, List, [], ◌∷◌, length, map, drop, get_or, refl, sym, ap, ◌∙◌, arith}
+use Rattle.std.specs.Prelude.{◌^◌, Option, None}
+use Rattle.std.proofs.lemmas.List.{length-drop, length-map}
+use Rattle.std.proofs.lemmas.Simd.{map-map}
+use Rattle.board_language.specs.Layers.{bits, is_among, meant_in, layer_set}
+use Rattle.board_parts.proofs.Walks.{drop_here, drop_past}
+
+-- n bits make a number below 2 ^ n
+pub bits_below : (bs : List Bool) (n : ℕ) → length bs ≤ n → bits bs < 2 ^ n
+unfolding bits
+bits_below [] zero l = omega arith
+bits_below [] (suc n) l = let p = bits_below [] n (omega arith) in omega (arith, p)
+bits_below (b ∷ bs) zero l = absurd (omega (arith, l))
+bits_below (b ∷ bs) (suc n) l = let p = bits_below bs n (omega (arith, l)) in by_bit b p
+  where
+    by_bit : (b : Bool) → bits bs < 2 ^ n → cond b 1 0 + 2 * bits bs < 2 ^ (suc n)
+    by_bit true p = omega (arith, p)
+    by_bit false p = omega (arith, p)
+
+pub no_bits : {X : Type 0} (xs : List X) → bits (map (λ x. false) xs) ≡ 0
+unfolding bits
+no_bits [] = refl
+no_bits (x ∷ xs) = let p = no_bits xs in omega (arith, p)
+
+pub no_layers : (bytes : List ℕ) (copper : List (List ℕ)) → layer_set bytes copper None ≡ 0
+unfolding layer_set
+no_layers bytes copper = no_bits copper
+
+-- ---- one more layer before the others
+
+last_places : (n step : ℕ) → step < n → (n - 1 - step) + 1 ≡ n - step
+last_places n step l = omega (arith, l)
+
+pub bit_more : {X : Type 0} (f : X → Bool) (xs : List X) (step : ℕ) (x : X) (set : ℕ) → step < length xs → ((d : X) → x ≡ get_or xs (length xs - 1 - step) d)
+    → set ≡ bits (map f (drop (length xs - step) xs)) → 2 * set + cond (f x) 1 0 ≡ bits (map f (drop (length xs - (step + 1)) xs))
+unfolding bits
+bit_more f xs step x set l e h =
+    let k : ℕ = length xs - 1 - step in
+    let same : k ≡ length xs - (step + 1) = omega arith in
+    let here : drop k xs ≡ x ∷ drop (k + 1) xs = drop_here xs k x (omega (arith, l)) e in
+    let there : bits (map f (drop k xs)) ≡ cond (f x) 1 0 + 2 * bits (map f (drop (length xs - step) xs)) =
+    ap (λ ys. bits (map f ys)) here ∙ ap (λ m. cond (f x) 1 0 + 2 * bits (map f (drop m xs))) (last_places (length xs) step l) in
+    let turned : 2 * set + cond (f x) 1 0 ≡ bits (map f (drop k xs)) = omega (arith, h, there) in
+    turned ∙ ap (λ m. bits (map f (drop m xs))) same
+
+-- with fewer than 32 layers done, the set is below 2 ^ 31
+pub set_below : {X : Type 0} (f : X → Bool) (xs : List X) (step set : ℕ) → length xs ≤ 32 → step < length xs → set ≡ bits (map f (drop (length xs - step) xs)) → set < 2 ^ 31
+set_below f xs step set m l h =
+    let d : length (drop (length xs - step) xs) ≡ length xs - (length xs - step) = length-drop (length xs - step) xs in
+    let e : length (map f (drop (length xs - step) xs)) ≡ length (drop (length xs - step) xs) = length-map (drop (length xs - step) xs) f in
+    let n : length (map f (drop (length xs - step) xs)) ≤ 31 = omega (arith, m, l, d, e) in
+    let p = bits_below (map f (drop (length xs - step) xs)) 31 n in
+    omega (arith, h, p)
+
+pub no_bit : {X : Type 0} (f : X → Bool) (xs : List X) → 0 ≡ bits (map f (drop (length xs - 0) xs))
+unfolding bits
+no_bit f xs = sym (ap (λ ys. bits (map f ys)) (drop_past xs (length xs - 0) (omega arith)))
+
+pub all_bits : {X Y : Type 0} (f : Y → Bool) (g : X → Y) (xs : List X) (step set : ℕ) → length xs ≤ step → set ≡ bits (map (λ x. f (g x)) (drop (length xs - step) xs)) → set ≡ bits (map f (map g xs))
+all_bits f g xs step set l h =
+    let z : length xs - step ≡ 0 = omega (arith, l) in
+    h ∙ ap (λ k. bits (map (λ x. f (g x)) (drop k xs))) z ∙ ap bits (sym (map-map f g xs))

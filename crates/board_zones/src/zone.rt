@@ -1,0 +1,67 @@
+// What is read of zones and rule areas.
+ghost use Rattle.std.specs.Prelude.{◌≡◌, ◌≤◌, length, IfOk};
+ghost use Rattle.board_language.specs.Items.{line_of};
+ghost use Rattle.board_language.specs.Zones.{area_of, zone_of};
+ghost use Rattle.board_items.specs.Known.{context};
+ghost use Rattle.board_zones.specs.Kinds.{IsSoundArea, IsSoundZone};
+
+use crate::outline::outline_of;
+use crate::read::layers_of;
+use crate::settings::{bridge_in, clearance_in, gap_in, join_in, mode_in, thickness_in};
+use crate::spans::spans_of;
+use board_items::{Known, size_of};
+use board_language::{Area, Zone};
+use board_parts::Part;
+use grid_num::Memory;
+use std::alloc::Global;
+
+/// The zone that is read of an item on this line, in which nothing offends, of a board with at most 32 copper layers.
+///
+/// # Errors
+///
+/// Want of memory.
+#[tactic(auto, unfolding(board_language::specs::Zones::zone_of))]
+pub fn zone_of(alloc: Global, known: &Known, zone: &Part<'_>, line: u64) -> Result<Zone, Memory>
+    requires few { length known.now.copper ≤ 32 }
+    requires line { line ≡ line_of zone.now.bytes zone.now.item.from }
+    requires sound { IsSoundZone (context zone.now.bytes known.now) zone.now.item }
+    ensures { IfOk result (λ z. z ≡ zone_of (context zone.now.bytes known.now) zone.now.item) }
+{
+    let clearance = clearance_in(alloc, zone)?;
+    let thickness = thickness_in(alloc, zone)?;
+    let gap = gap_in(alloc, zone)?;
+    let bridge = bridge_in(alloc, zone)?;
+    let mode = mode_in(alloc, zone)?;
+    Ok(Zone {
+        outline: outline_of(alloc, zone)?,
+        layers: layers_of(alloc, known, zone)?,
+        net: zone.whole_in(alloc, b"net")?,
+        priority: zone.whole_in(alloc, b"priority")?,
+        join: join_in(alloc, zone)?,
+        clearance: size_of(clearance),
+        thickness: size_of(thickness),
+        gap: size_of(gap),
+        bridge: size_of(bridge),
+        keep_islands: mode == 1,
+        spans: spans_of(alloc, zone)?,
+        span: zone.span(),
+        line,
+    })
+}
+
+/// The rule area that is read of an item in which nothing offends, of a board with at most 32 copper layers.
+///
+/// # Errors
+///
+/// Want of memory.
+#[tactic(auto, unfolding(board_language::specs::Zones::area_of))]
+pub fn area_of(alloc: Global, known: &Known, zone: &Part<'_>) -> Result<Area, Memory>
+    requires few { length known.now.copper ≤ 32 }
+    requires sound { IsSoundArea (context zone.now.bytes known.now) zone.now.item }
+    ensures { IfOk result (λ a. a ≡ area_of (context zone.now.bytes known.now) zone.now.item) }
+{
+    Ok(Area {
+        outline: outline_of(alloc, zone)?,
+        layers: layers_of(alloc, known, zone)?,
+    })
+}
