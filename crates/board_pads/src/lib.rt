@@ -1,0 +1,12 @@
+//! Footprints and their pads: which pads are read, what is read of them, and their first offence.
+//! The layer above uses each exactly as `board_language` defines it, and that a pad's core holds the pad's centre.
+//! Lengths and places are nanometres, shapes are halves of a nanometre, angles are quarter turns.
+#![tactic(auto)]
+
+mod angle;
+mod decimal;
+mod drill;
+mod ratio;
+mod read;
+
+pub use read::{has_read_pad, is_read_pad};
