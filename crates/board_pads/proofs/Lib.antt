@@ -1,3 +1,5 @@
 pub mod Ratios
 pub mod Parts
 pub mod Drills
+pub mod Places
+pub mod Bridges

@@ -4,9 +4,19 @@
 #![tactic(auto)]
 
 mod angle;
+mod bridge;
 mod decimal;
 mod drill;
+mod footprint;
+mod form;
+mod join;
+mod kind;
+mod place;
 mod ratio;
 mod read;
+mod shape;
+mod size;
 
+pub use footprint::footprint_kind;
+pub use kind::pad_kind;
 pub use read::{has_read_pad, is_read_pad};
