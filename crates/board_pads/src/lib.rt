@@ -11,6 +11,7 @@ mod footprint;
 mod form;
 mod join;
 mod kind;
+mod pad;
 mod place;
 mod ratio;
 mod read;
@@ -19,4 +20,5 @@ mod size;
 
 pub use footprint::footprint_kind;
 pub use kind::pad_kind;
+pub use pad::pad_of;
 pub use read::{has_read_pad, is_read_pad};

@@ -41,6 +41,36 @@ fn box_round(at: Point, half_width: u32, half_height: u32, radius: u32) -> Shape
     Shape::box_round(doubled(at), half_width, half_height, radius)
 }
 
+/// The place so far to the left and above.
+fn before(center: Point, long: u32, tall: u32) -> Point
+    requires center { IsInRoom 1000000000 center }
+    requires long { long ≤ 100000000 }
+    requires tall { tall ≤ 100000000 }
+    ensures x { result.x ≡ center.x -ℤ pos long }
+    ensures y { result.y ≡ center.y -ℤ pos tall }
+    ensures within { IsInRoom 2000000000 result }
+{
+    Point {
+        x: center.x - long as i64,
+        y: center.y - tall as i64,
+    }
+}
+
+/// The place so far to the right and below.
+fn behind(center: Point, long: u32, tall: u32) -> Point
+    requires center { IsInRoom 1000000000 center }
+    requires long { long ≤ 100000000 }
+    requires tall { tall ≤ 100000000 }
+    ensures x { result.x ≡ center.x +ℤ pos long }
+    ensures y { result.y ≡ center.y +ℤ pos tall }
+    ensures within { IsInRoom 2000000000 result }
+{
+    Point {
+        x: center.x + long as i64,
+        y: center.y + tall as i64,
+    }
+}
+
 /// The segment along the longer side, with round ends.
 fn oval(at: Point, width: u32, height: u32) -> Shape
     requires x { IsInRange at.x }
@@ -51,17 +81,11 @@ fn oval(at: Point, width: u32, height: u32) -> Shape
     ensures pad { IsPad result.core }
     ensures centre { InCore result.core (grid_point (double at.x) (double at.y)) }
 {
-    let long = i64::from(width.saturating_sub(height));
-    let tall = i64::from(height.saturating_sub(width));
+    let long = width.saturating_sub(height);
+    let tall = height.saturating_sub(width);
     let center = doubled(at);
-    let from = Point {
-        x: center.x - long,
-        y: center.y - tall,
-    };
-    let to = Point {
-        x: center.x + long,
-        y: center.y + tall,
-    };
+    let from = before(center, long, tall);
+    let to = behind(center, long, tall);
     Shape::capsule(from, to, width.min(height))
 }
 
