@@ -15,7 +15,7 @@ things_as c item Via = 1
 things_as c item (Pad footprint) = cond (is_read_pad c item) 1 0
 things_as c item Zone = cond (is_read_zone c item) 1 0
 things_as c item Drawing = length (edges_of c.bytes item)
-things_as c item other = 0
+things_as c item _ = 0
 
 unfoldable pub things_of : Context → Placed → ℕ
 things_of c p = things_as c p.item (thing_of c.bytes p)
@@ -24,7 +24,7 @@ things_of c p = things_as c p.item (thing_of c.bytes p)
 abbrev pub outlines_as : Context → Item → Thing → ℕ
 outlines_as c item Zone = cond (is_read_zone c item) 1 0
 outlines_as c item RuleArea = cond (is_read_area c item) 1 0
-outlines_as c item other = 0
+outlines_as c item _ = 0
 
 unfoldable pub outlines_of : Context → Placed → ℕ
 outlines_of c p = outlines_as c p.item (thing_of c.bytes p)

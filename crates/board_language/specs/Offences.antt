@@ -92,7 +92,7 @@ layers_kind c layers =
 
 abbrev pub net_as : List ℕ → Item → Thing → Option ℕ
 net_as bytes item Net = declared_net bytes item
-net_as bytes item other = None
+net_as bytes item _ = None
 
 abbrev pub net_number : List ℕ → Placed → Option ℕ
 net_number bytes p = net_as bytes p.item (thing_of bytes p)
@@ -126,7 +126,7 @@ stamp_as bytes item Track = stamp_in bytes item
 stamp_as bytes item Via = stamp_in bytes item
 stamp_as bytes item Zone = stamp_in bytes item
 stamp_as bytes item RuleArea = stamp_in bytes item
-stamp_as bytes item other = None
+stamp_as bytes item _ = None
 
 -- the stamp of a track, a via, or a zone of any kind
 abbrev pub stamp_of_placed : List ℕ → Placed → Option Name
@@ -385,7 +385,7 @@ footprint_drawing_kind c item =
 
 abbrev pub is_layers : Thing → Bool
 is_layers Layers = true
-is_layers other = false
+is_layers _ = false
 
 -- of several `layers` the first is read
 abbrev pub has_layers : Context → List Placed → Bool

@@ -26,27 +26,27 @@ context_of bytes board = record { bytes = bytes; copper = copper_layers bytes bo
 
 abbrev pub track_from : Context → Item → Thing → Option tracks.Track
 track_from c item Track = Some (track_of c item)
-track_from c item other = None
+track_from c item _ = None
 
 abbrev pub via_from : Context → Item → Thing → Option vias.Via
 via_from c item Via = Some (via_of c item)
-via_from c item other = None
+via_from c item _ = None
 
 abbrev pub pad_from : Context → Item → Thing → Option pads.Pad
 pad_from c item (Pad footprint) = cond (is_read_pad c item) (Some (pad_of c footprint item)) None
-pad_from c item other = None
+pad_from c item _ = None
 
 abbrev pub zone_from : Context → Item → Thing → Option zones.Zone
 zone_from c item Zone = cond (is_read_zone c item) (Some (zone_of c item)) None
-zone_from c item other = None
+zone_from c item _ = None
 
 abbrev pub area_from : Context → Item → Thing → Option areas.Area
 area_from c item RuleArea = cond (is_read_area c item) (Some (area_of c item)) None
-area_from c item other = None
+area_from c item _ = None
 
 abbrev pub edges_from : Context → Item → Thing → List edges.Edge
 edges_from c item Drawing = edges_of c.bytes item
-edges_from c item other = []
+edges_from c item _ = []
 
 -- all things of one kind, in file order
 abbrev pub all_of : {X : Type 0} → (Context → Item → Thing → Option X) → Context → List Placed → List X
