@@ -84,7 +84,7 @@ drilled_small bytes pad h d = by_case (is_hole bytes pad) refl d
     by_case : (b : Bool) → is_hole bytes pad ≡ b → (is_hole bytes pad && (is_no_length (drill_width bytes (drill_of bytes pad)) || is_no_length (drill_height bytes (drill_of bytes pad)))) ≡ false → IsSmall (drilled_size bytes pad)
     by_case true e d =
         let both = neither (is_no_length (drill_width bytes (drill_of bytes pad))) (is_no_length (drill_height bytes (drill_of bytes pad)))
-            (sym (ap (λ b. b && (is_no_length (drill_width bytes (drill_of bytes pad)) || is_no_length (drill_height bytes (drill_of bytes pad)))) e) ∙ d) in
+        (sym (ap (λ b. b && (is_no_length (drill_width bytes (drill_of bytes pad)) || is_no_length (drill_height bytes (drill_of bytes pad)))) e) ∙ d) in
         let w = length_most (drill_width bytes (drill_of bytes pad)) both.0 in
         let t = length_most (drill_height bytes (drill_of bytes pad)) both.1 in
         rw e (omega (arith, h.0, w), omega (arith, h.1, t))

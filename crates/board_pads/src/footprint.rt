@@ -33,7 +33,12 @@ fn is_short(footprint: &Part<'_>) -> bool
     ensures { result ≡ (has_short footprint.now.bytes 2 (codes "at" ∷ []) footprint.now.item || has_short footprint.now.bytes 1 (codes "clearance" ∷ codes "zone_connect" ∷ codes "thermal_gap" ∷ codes "thermal_width" ∷ []) footprint.now.item) }
 {
     let points: [&[u8]; 1] = [b"at"];
-    let numbers: [&[u8]; 4] = [b"clearance", b"zone_connect", b"thermal_gap", b"thermal_width"];
+    let numbers: [&[u8]; 4] = [
+        b"clearance",
+        b"zone_connect",
+        b"thermal_gap",
+        b"thermal_width",
+    ];
     has_short(footprint, 2, &points) || has_short(footprint, 1, &numbers)
 }
 
@@ -71,7 +76,11 @@ fn is_bad(alloc: Global, footprint: &Part<'_>) -> Result<bool, Memory>
 ///
 /// Want of memory.
 #[tactic(auto, unfolding(board_language::specs::Offences::footprint_kind))]
-pub fn footprint_kind(alloc: Global, known: &Known, footprint: &Part<'_>) -> Result<Option<OffenceKind>, Memory>
+pub fn footprint_kind(
+    alloc: Global,
+    known: &Known,
+    footprint: &Part<'_>,
+) -> Result<Option<OffenceKind>, Memory>
     ensures { IfOk result (λ k. k ≡ footprint_kind (context footprint.now.bytes known.now) footprint.now.item) }
 {
     let lacks = footprint_lacks(alloc, known, footprint)?;

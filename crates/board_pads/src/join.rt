@@ -67,7 +67,12 @@ fn length_or(own: Option<u32>, other: Option<u32>) -> Option<u32>
 /// # Errors
 ///
 /// Want of memory.
-pub fn length_of(alloc: Global, footprint: &Part<'_>, pad: &Part<'_>, name: &[u8]) -> Result<Option<u32>, Memory>
+pub fn length_of(
+    alloc: Global,
+    footprint: &Part<'_>,
+    pad: &Part<'_>,
+    name: &[u8],
+) -> Result<Option<u32>, Memory>
     ensures { IfOk result (λ n. n ≡ option_or (own_length pad.now.bytes name.now pad.now.item) (own_length footprint.now.bytes name.now footprint.now.item)) }
 {
     let own = own_length(alloc, pad, name)?;

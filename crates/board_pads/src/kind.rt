@@ -18,7 +18,8 @@ use crate::place::place_fault;
 use crate::ratio::{ratio_fault_in, ratio_in};
 use crate::size::size_at;
 use board_items::{
-    Known, first_kind, has_bad_length, has_short, has_unknown, is_no_size, is_unknown_net, lacks, number_kind, when,
+    Known, first_kind, has_bad_length, has_short, has_unknown, is_no_size, is_unknown_net, lacks,
+    number_kind, when,
 };
 use board_language::OffenceKind;
 use board_parts::{Part, first_of};
@@ -31,7 +32,11 @@ use std::alloc::Global;
 ///
 /// Want of memory.
 #[tactic(auto, unfolding(board_language::specs::Pads::pad_fault))]
-fn pad_fault(alloc: Global, footprint: &Part<'_>, pad: &Part<'_>) -> Result<Option<NumFault>, Memory>
+fn pad_fault(
+    alloc: Global,
+    footprint: &Part<'_>,
+    pad: &Part<'_>,
+) -> Result<Option<NumFault>, Memory>
     requires same { footprint.now.bytes ≡ pad.now.bytes }
     ensures { IfOk result (λ f. f ≡ pad_fault pad.now.bytes footprint.now.item pad.now.item) }
 {
@@ -45,14 +50,22 @@ fn pad_fault(alloc: Global, footprint: &Part<'_>, pad: &Part<'_>) -> Result<Opti
     let connect = pad.whole_fault_in(alloc, b"zone_connect")?;
     let gap = pad.length_fault_in(alloc, b"thermal_gap")?;
     let bridge = bridge_fault(alloc, pad)?;
-    Ok(first_of(&[at, place, size, drill, net, ratio, clearance, connect, gap, bridge]))
+    Ok(first_of(&[
+        at, place, size, drill, net, ratio, clearance, connect, gap, bridge,
+    ]))
 }
 
 fn is_short(pad: &Part<'_>) -> bool
     ensures { result ≡ (has_short pad.now.bytes 2 (codes "at" ∷ codes "size" ∷ []) pad.now.item || (has_short pad.now.bytes 1 (codes "net" ∷ codes "roundrect_rratio" ∷ codes "clearance" ∷ codes "zone_connect" ∷ codes "thermal_gap" ∷ []) pad.now.item || is_short 1 (bridge_list pad.now.bytes pad.now.item))) }
 {
     let points: [&[u8]; 2] = [b"at", b"size"];
-    let numbers: [&[u8]; 5] = [b"net", b"roundrect_rratio", b"clearance", b"zone_connect", b"thermal_gap"];
+    let numbers: [&[u8]; 5] = [
+        b"net",
+        b"roundrect_rratio",
+        b"clearance",
+        b"zone_connect",
+        b"thermal_gap",
+    ];
     has_short(pad, 2, &points) || has_short(pad, 1, &numbers) || is_short_bridge(pad)
 }
 
@@ -122,7 +135,13 @@ fn is_bad_shape(alloc: Global, pad: &Part<'_>) -> Result<bool, Memory>
 ///
 /// Want of memory.
 #[tactic(auto, unfolding(board_language::specs::Offences::pad_kind))]
-pub fn pad_kind(alloc: Global, known: &Known, footprint: &Part<'_>, pad: &Part<'_>, many: bool) -> Result<Option<OffenceKind>, Memory>
+pub fn pad_kind(
+    alloc: Global,
+    known: &Known,
+    footprint: &Part<'_>,
+    pad: &Part<'_>,
+    many: bool,
+) -> Result<Option<OffenceKind>, Memory>
     requires same { footprint.now.bytes ≡ pad.now.bytes }
     ensures { IfOk result (λ k. k ≡ pad_kind (context pad.now.bytes known.now) footprint.now.item pad.now.item many) }
 {

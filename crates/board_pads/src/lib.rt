@@ -17,6 +17,8 @@ mod ratio;
 mod read;
 mod shape;
 mod size;
+#[cfg(test)]
+mod tests;
 
 pub use footprint::footprint_kind;
 pub use kind::pad_kind;

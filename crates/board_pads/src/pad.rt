@@ -80,7 +80,13 @@ fn clearance_of(alloc: Global, footprint: &Part<'_>, pad: &Part<'_>) -> Result<u
 ///
 /// Want of memory.
 #[tactic(auto, unfolding(board_language::specs::Pads::pad_of))]
-pub fn pad_of(alloc: Global, known: &Known, footprint: &Part<'_>, pad: &Part<'_>, line: u64) -> Result<Pad, Memory>
+pub fn pad_of(
+    alloc: Global,
+    known: &Known,
+    footprint: &Part<'_>,
+    pad: &Part<'_>,
+    line: u64,
+) -> Result<Pad, Memory>
     requires same { footprint.now.bytes ≡ pad.now.bytes }
     requires few { length known.now.copper ≤ 32 }
     requires line { line ≡ line_of pad.now.bytes pad.now.item.from }

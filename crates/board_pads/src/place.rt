@@ -57,7 +57,11 @@ fn is_far(nm: i64) -> bool
 /// # Errors
 ///
 /// Want of memory.
-pub fn place_fault(alloc: Global, footprint: &Part<'_>, pad: &Part<'_>) -> Result<Option<NumFault>, Memory>
+pub fn place_fault(
+    alloc: Global,
+    footprint: &Part<'_>,
+    pad: &Part<'_>,
+) -> Result<Option<NumFault>, Memory>
     requires same { footprint.now.bytes ≡ pad.now.bytes }
     ensures { IfOk result (λ f. f ≡ place_fault pad.now.bytes footprint.now.item pad.now.item) }
 {

@@ -13,6 +13,9 @@ use board_parts::Part;
 use grid_num::{Memory, NumFault};
 use std::alloc::Global;
 
+/// The ratio of a pad that gives none.
+const A_QUARTER: u64 = 2_500_000_000;
+
 /// What is wrong with a text from which a ratio is wanted.
 #[tactic(auto, unfolding(board_language::specs::Numbers::ratio_fault))]
 pub fn ratio_fault(text: &[u8]) -> Option<NumFault>
@@ -79,7 +82,7 @@ fn ratio_at(alloc: Global, list: &Part<'_>) -> Result<Option<u64>, Memory>
 {
     match list.text_at(alloc, 0)? {
         Some(text) => Ok(ratio_of(&text)),
-        None => Ok(Some(2_500_000_000)),
+        None => Ok(Some(A_QUARTER)),
     }
 }
 
@@ -93,7 +96,7 @@ pub fn ratio_in(alloc: Global, pad: &Part<'_>) -> Result<Option<u64>, Memory>
 {
     match pad.list(b"roundrect_rratio") {
         Some(list) => ratio_at(alloc, &list),
-        None => Ok(Some(2_500_000_000)),
+        None => Ok(Some(A_QUARTER)),
     }
 }
 

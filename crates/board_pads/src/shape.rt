@@ -112,7 +112,12 @@ fn rounded(at: Point, width: u32, height: u32, ratio: u64) -> Shape
     ensures centre { InCore result.core (grid_point (double at.x) (double at.y)) }
 {
     let radius = corner_radius(ratio, width, height);
-    box_round(at, width.saturating_sub(radius), height.saturating_sub(radius), radius)
+    box_round(
+        at,
+        width.saturating_sub(radius),
+        height.saturating_sub(radius),
+        radius,
+    )
 }
 
 /// The copper of a pad at a place, of this width and height and this ratio of its corners.
@@ -121,7 +126,14 @@ fn rounded(at: Point, width: u32, height: u32, ratio: u64) -> Shape
 ///
 /// Want of memory.
 #[tactic(auto, unfolding(board_language::specs::Pads::shape_of))]
-pub fn shape_of(alloc: Global, pad: &Part<'_>, at: Point, width: u32, height: u32, ratio: u64) -> Result<Shape, Memory>
+pub fn shape_of(
+    alloc: Global,
+    pad: &Part<'_>,
+    at: Point,
+    width: u32,
+    height: u32,
+    ratio: u64,
+) -> Result<Shape, Memory>
     requires x { IsInRange at.x }
     requires y { IsInRange at.y }
     requires width { width ≤ 100000000 }

@@ -12,9 +12,9 @@ each-preserved c =
     let all = map (part_of c.args.list.now.bytes) (leaves_in c.args.list.now.item) in
     elim c.if-not-is_list.branch [
       | then-not-is_list+in_ok-push w ↦ rw (w.leaves-is, w.in_ok-push.ensures.items)
-        (kept_more c.args.list.now.bytes (λ item. not (is_list item)) (children_of c.args.list.now.item) c.each.place c.each.leaves.items all c.child-child.result (omega (arith, c.each-test.true, c.len-place-end.ensures))
-        c.child-child.ensures.bytes c.child-child.ensures.item (ap not (sym c.is_list.ensures ∙ w.if-not-is_list.true)) c.each.invariant)
+          (kept_more c.args.list.now.bytes (λ item. not (is_list item)) (children_of c.args.list.now.item) c.each.place c.each.leaves.items all c.child-child.result (omega (arith, c.each-test.true, c.len-place-end.ensures))
+          c.child-child.ensures.bytes c.child-child.ensures.item (ap not (sym c.is_list.ensures ∙ w.if-not-is_list.true)) c.each.invariant)
       | else-not-is_list w ↦ rw w.leaves-is
-        (kept_not c.args.list.now.bytes (λ item. not (is_list item)) (children_of c.args.list.now.item) c.each.place c.each.leaves.items all c.child-child.result.item (omega (arith, c.each-test.true, c.len-place-end.ensures))
-        c.child-child.ensures.item (ap not (sym c.is_list.ensures ∙ w.if-not-is_list.false)) c.each.invariant)
+          (kept_not c.args.list.now.bytes (λ item. not (is_list item)) (children_of c.args.list.now.item) c.each.place c.each.leaves.items all c.child-child.result.item (omega (arith, c.each-test.true, c.len-place-end.ensures))
+          c.child-child.ensures.item (ap not (sym c.is_list.ensures ∙ w.if-not-is_list.false)) c.each.invariant)
     ]

@@ -26,5 +26,16 @@ copper_at-requires-clause-ratio c = (in_ranges (context c.args.pad.now.bytes c.a
 pub returns-clause-value : goal.returns-clause-value
 unfolding pad_of
 returns-clause-value c =
-    rw (c.in_ok-copper_at.ensures.value, c.in_ok-at.ensures.value, c.in_ok-layers_of.ensures, c.in_ok-whole_in.ensures, c.in_ok-kind_of.ensures, c.in_ok-clearance_of.ensures, c.in_ok-join_of.ensures,
-    c.in_ok-length_of.ensures, c.in_ok-bridge_of.ensures, c.requires.line, c.requires.same) refl
+    rw (
+      c.in_ok-copper_at.ensures.value,
+      c.in_ok-at.ensures.value,
+      c.in_ok-layers_of.ensures,
+      c.in_ok-whole_in.ensures,
+      c.in_ok-kind_of.ensures,
+      c.in_ok-clearance_of.ensures,
+      c.in_ok-join_of.ensures,
+      c.in_ok-length_of.ensures,
+      c.in_ok-bridge_of.ensures,
+      c.requires.line,
+      c.requires.same,
+    ) refl

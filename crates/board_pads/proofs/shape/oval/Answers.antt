@@ -6,8 +6,18 @@ use Rattle.board_pads.proofs.shape.oval.Goals as goal
 
 pub returns-clause-value : goal.returns-clause-value
 returns-clause-value c =
-    rw (c.capsule.ensures.value, c.before-from.ensures.x, c.before-from.ensures.y, c.behind-to.ensures.x, c.behind-to.ensures.y, c.doubled-center.ensures.x, c.doubled-center.ensures.y,
-    c.saturating_sub-long.ensures, c.saturating_sub-tall.ensures, c.min.ensures) refl
+    rw (
+      c.capsule.ensures.value,
+      c.before-from.ensures.x,
+      c.before-from.ensures.y,
+      c.behind-to.ensures.x,
+      c.behind-to.ensures.y,
+      c.doubled-center.ensures.x,
+      c.doubled-center.ensures.y,
+      c.saturating_sub-long.ensures,
+      c.saturating_sub-tall.ensures,
+      c.min.ensures,
+    ) refl
 
 pub returns-clause-pad : goal.returns-clause-pad
 returns-clause-pad c =
