@@ -93,16 +93,22 @@ not_lt_of a b h = grind (arith, nat_tests)
 pub length_reads : (text : List ℕ) (nm : ℤ) → IsLength text nm → length_fault text ≡ None
 unfolding length_fault
 length_reads text nm l =
-    rw (spelt text l.negative l.whole l.fraction l.spelling, fine_of text l.negative l.whole l.fraction l.spelling l.fine,
-    not_lt_of 500000000 (nanometres (whole_of text) (fraction_of text)) (omega (arith, l.range, size_is text l.negative l.whole l.fraction l.spelling))) refl
+    rw (
+      spelt text l.negative l.whole l.fraction l.spelling,
+      fine_of text l.negative l.whole l.fraction l.spelling l.fine,
+      not_lt_of 500000000 (nanometres (whole_of text) (fraction_of text)) (omega (arith, l.range, size_is text l.negative l.whole l.fraction l.spelling)),
+    ) refl
 
 pub fault_reads : (text : List ℕ) (f : NumFault) → HasFault text f → length_fault text ≡ Some f
 unfolding length_fault
 fault_reads text NotANumber h = rw (none_spelt text h) refl
 fault_reads text TooFine h = rw (spelt text h.negative h.whole h.fraction h.spelling, not_fine text h.negative h.whole h.fraction h.spelling h.too_fine) refl
 fault_reads text OutOfRange h =
-    rw (spelt text h.negative h.whole h.fraction h.spelling, fine_of text h.negative h.whole h.fraction h.spelling h.fine,
-    lt_of 500000000 (nanometres (whole_of text) (fraction_of text)) (omega (arith, h.beyond, size_is text h.negative h.whole h.fraction h.spelling))) refl
+    rw (
+      spelt text h.negative h.whole h.fraction h.spelling,
+      fine_of text h.negative h.whole h.fraction h.spelling h.fine,
+      lt_of 500000000 (nanometres (whole_of text) (fraction_of text)) (omega (arith, h.beyond, size_is text h.negative h.whole h.fraction h.spelling)),
+    ) refl
 
 pub length_is : (text : List ℕ) (nm : ℤ) → IsLength text nm → nm ≡ length_of text
 unfolding length_of

@@ -8,8 +8,8 @@ ghost use Rattle.board_language.specs.Fields.{list_of, list_in, text_of, head_be
 ghost use Rattle.text_items.specs.Parts.{part_of, item_at};
 
 use grid_num::Memory;
-use std::alloc::Global;
 use sexpr_text::{NodeId, NodeKind, Span, Tree};
+use std::alloc::Global;
 use std::marker::Model;
 
 /// An item of a text: a list, a word or a string. Contracts see the item, and the bytes of the text.
@@ -22,7 +22,6 @@ pub struct Part<'a> {
 
 impl<'a> Model for Part<'a> {
     ghost use Rattle.text_items.specs.Parts.{Part, IsPart, part_of, item_at};
-
     ghost use Rattle.board_parts.specs.Codes.{part_code};
 
     ghost Value = { Part };

@@ -11,11 +11,11 @@ each-preserved c =
     let all = map (part_of c.args.self.now.bytes) (lists_of c.args.self.now.item) in
     elim c.if-is_list.branch [
       | then-is_list+in_ok-push w ↦ rw (w.lists-is, w.in_ok-push.ensures.items)
-        (kept_more c.args.self.now.bytes is_list (children_of c.args.self.now.item) c.each.place c.each.lists.items all c.child-child.result (omega (arith, c.each-test.true, c.len-place-end.ensures))
-        c.child-child.ensures.bytes c.child-child.ensures.item (sym c.is_list.ensures ∙ w.if-is_list.true) c.each.invariant)
+          (kept_more c.args.self.now.bytes is_list (children_of c.args.self.now.item) c.each.place c.each.lists.items all c.child-child.result (omega (arith, c.each-test.true, c.len-place-end.ensures))
+          c.child-child.ensures.bytes c.child-child.ensures.item (sym c.is_list.ensures ∙ w.if-is_list.true) c.each.invariant)
       | else-is_list w ↦ rw w.lists-is
-        (kept_not c.args.self.now.bytes is_list (children_of c.args.self.now.item) c.each.place c.each.lists.items all c.child-child.result.item (omega (arith, c.each-test.true, c.len-place-end.ensures))
-        c.child-child.ensures.item (sym c.is_list.ensures ∙ w.if-is_list.false) c.each.invariant)
+          (kept_not c.args.self.now.bytes is_list (children_of c.args.self.now.item) c.each.place c.each.lists.items all c.child-child.result.item (omega (arith, c.each-test.true, c.len-place-end.ensures))
+          c.child-child.ensures.item (sym c.is_list.ensures ∙ w.if-is_list.false) c.each.invariant)
     ]
 
 pub returns : goal.returns

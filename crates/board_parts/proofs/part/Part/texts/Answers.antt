@@ -13,11 +13,11 @@ each-preserved c =
     let content = c.in_ok-text.ensures ∙ ap (λ b. text_of b c.child.result.item) c.child.ensures.bytes in
     elim c.match-branch-2.branch [
       | in-Some+in_ok-push w ↦ rw (w.texts-is, w.in_ok-push.ensures.items)
-        (texts_more (λ t. t.items) bytes xs c.each.place c.each.texts.items all c.child.result.item w.in-Some.text (omega (arith, c.each-test.true, c.len-place-end.ensures)) c.child.ensures.item
-        (ap (option_map (λ v. v.items)) (sym w.in-Some.is) ∙ content) c.each.invariant)
+          (texts_more (λ t. t.items) bytes xs c.each.place c.each.texts.items all c.child.result.item w.in-Some.text (omega (arith, c.each-test.true, c.len-place-end.ensures)) c.child.ensures.item
+          (ap (option_map (λ v. v.items)) (sym w.in-Some.is) ∙ content) c.each.invariant)
       | in_default w ↦ rw w.texts-is
-        (texts_same (λ t. t.items) bytes xs c.each.place c.each.texts.items all c.child.result.item (omega (arith, c.each-test.true, c.len-place-end.ensures)) c.child.ensures.item
-        (ap (option_map (λ v. v.items)) (sym w.in_default.is) ∙ content) c.each.invariant)
+          (texts_same (λ t. t.items) bytes xs c.each.place c.each.texts.items all c.child.result.item (omega (arith, c.each-test.true, c.len-place-end.ensures)) c.child.ensures.item
+          (ap (option_map (λ v. v.items)) (sym w.in_default.is) ∙ content) c.each.invariant)
     ]
 
 pub returns : goal.returns
