@@ -6,3 +6,5 @@ pub mod PartLaws
 pub mod Places
 pub mod StripLaws
 pub mod SpanLaws
+pub mod Greedy
+pub mod Joins

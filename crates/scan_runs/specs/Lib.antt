@@ -4,3 +4,4 @@ pub mod Ends
 pub mod Parts
 pub mod Places
 pub mod Strips
+pub mod Grouping
