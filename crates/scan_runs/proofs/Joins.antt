@@ -8,9 +8,8 @@ use Rattle.grid_sets.specs.Bands.{moved, reach, at, Band, row_of, rows_from, row
 use Rattle.grid_sets.specs.declared.Move.{Move}
 use Rattle.grid_sets.specs.declared.End.{End}
 use Rattle.grid_sets.specs.declared.Slant.{Slant}
-use Rattle.scan_runs.specs.Parts.{AreSmall}
-use Rattle.scan_runs.specs.Strips.{band_of, IsSmallStrip, AreSmallStrips}
-use Rattle.scan_runs.specs.Grouping.{AreSteps, AreGrouped, IsTakenIn, IsSettled, IsJoinedBy, IsLonger, IsRestTaken}
+use Rattle.scan_runs.specs.Strips.{band_of}
+use Rattle.scan_runs.specs.Grouping.{IsGoodBand, AreGoodBands, AreGrouped, IsTakenIn, IsSettled, IsJoinedBy, IsLonger, IsRestTaken}
 use Rattle.scan_runs.specs.declared.strip.Strip.{Strip}
 use Rattle.scan_runs.proofs.Greedy.{alone, begun, grown, second_row, later_row, rest_alike, rest_other}
 
@@ -38,16 +37,16 @@ map_two : (ss : List Strip) (s t : Strip) → map band_of ((ss ++ s ∷ []) ++ t
 map_two [] s t = refl
 map_two (u ∷ us) s t = ap (λ (v : List Band). band_of u ∷ v) (map_two us s t)
 
-small_end : (ss : List Strip) (s : Strip) → AreSmallStrips ss → IsSmallStrip s → AreSmallStrips (ss ++ s ∷ [])
+small_end : (ss : List Strip) (s : Strip) → AreGoodBands ss → IsGoodBand s → AreGoodBands (ss ++ s ∷ [])
 small_end [] s a b = (b, tt)
 small_end (t ∷ ts) s a b = (a.0, small_end ts s a.1 b)
 
-small_split : (ss : List Strip) (s : Strip) → AreSmallStrips (ss ++ s ∷ []) → AreSmallStrips ss × IsSmallStrip s
+pub small_split : (ss : List Strip) (s : Strip) → AreGoodBands (ss ++ s ∷ []) → AreGoodBands ss × IsGoodBand s
 small_split [] s a = (tt, a.0)
 small_split (t ∷ ts) s a = let r = small_split ts s a.1 in ((a.0, r.0), r.1)
 
 -- a new band begins
-grouped_begun : (rows : List Row) (init : List Strip) (last s : Strip) → AreGrouped rows (init ++ last ∷ []) → (IsJoining (band_of last) (row_of (band_of s) 0) → ⊥) → (s.more ≡ 0 → AreStill s.runs.items) → IsSmallStrip s
+grouped_begun : (rows : List Row) (init : List Strip) (last s : Strip) → AreGrouped rows (init ++ last ∷ []) → (IsJoining (band_of last) (row_of (band_of s) 0) → ⊥) → (s.more ≡ 0 → AreStill s.runs.items) → IsGoodBand s
     → AreGrouped (rows ++ rows_of (band_of s)) ((init ++ last ∷ []) ++ s ∷ [])
 grouped_begun rows init last s a n k h = record {
   bands = subst (λ (v : List Band). AreBandsOf (rows ++ rows_of (band_of s)) v) (sym (map_two init last s))
@@ -56,7 +55,7 @@ grouped_begun rows init last s a n k h = record {
 }
 
 -- the last band grows
-grouped_grown : (rows extra : List Row) (init : List Strip) (last c : Strip) → AreGrouped rows (init ++ last ∷ []) → rows_of (band_of c) ≡ rows_of (band_of last) ++ extra → (c.more ≡ 0 → AreStill c.runs.items) → IsSmallStrip c
+grouped_grown : (rows extra : List Row) (init : List Strip) (last c : Strip) → AreGrouped rows (init ++ last ∷ []) → rows_of (band_of c) ≡ rows_of (band_of last) ++ extra → (c.more ≡ 0 → AreStill c.runs.items) → IsGoodBand c
     → AreGrouped (rows ++ extra) (init ++ c ∷ [])
 grouped_grown rows extra init last c a e k h = record {
   bands = subst (AreBandsOf (rows ++ extra)) (sym (map_end init c))
@@ -91,7 +90,7 @@ longer_second b r steps j z = record {
     row_same : (y z : ℤ) (rs ts : List Run) → y ≡ z → rs ≡ ts → made y rs ≡ made z ts
     row_same y z rs ts e f = cc
 
-pub joined_whole : (strip last c : Strip) (init new : List Strip) → IsLonger (band_of last) (row_of (band_of strip) 0) (band_of c) → IsSmallStrip c → IsRestTaken strip init c new → IsTakenIn strip (init ++ last ∷ []) new
+pub joined_whole : (strip last c : Strip) (init new : List Strip) → IsLonger (band_of last) (row_of (band_of strip) 0) (band_of c) → IsGoodBand c → IsRestTaken strip init c new → IsTakenIn strip (init ++ last ∷ []) new
 joined_whole strip last c init new l h r = record {
   more = λ rows a.
     let first = row_of (band_of strip) 0 in
@@ -113,7 +112,7 @@ rest_none strip c init z = record {
     ends (r ∷ rs) more e = ap (λ (v : List Row). r ∷ v) (ends rs more e)
 
 pub rest_grown : (strip c d : Strip) (init : List Strip) → 1 ≤ c.more → row_of (band_of c) c.more ≡ row_of (band_of strip) 0 → AreMovedAlike c.runs.items strip.runs.items
-    → band_of d ≡ (record { top = c.top; more = c.more + strip.more; runs = c.runs.items }) → IsSmallStrip d → IsRestTaken strip init c (init ++ d ∷ [])
+    → band_of d ≡ (record { top = c.top; more = c.more + strip.more; runs = c.runs.items }) → IsGoodBand d → IsRestTaken strip init c (init ++ d ∷ [])
 rest_grown strip c d init one l m e h = record {
   more = λ rows a. grouped_grown rows (rows_from (band_of strip) 1 strip.more) init c d a
     (ap rows_of e ∙ rest_alike (band_of c) (band_of strip) l m)
@@ -124,7 +123,7 @@ rest_grown strip c d init one l m e h = record {
     none n f z = omega arith
 
 pub rest_begun : (strip c s : Strip) (init : List Strip) → 1 ≤ c.more → row_of (band_of c) c.more ≡ row_of (band_of strip) 0 → (AreMovedAlike c.runs.items strip.runs.items → ⊥)
-    → rows_of (band_of s) ≡ rows_from (band_of strip) 1 strip.more → row_of (band_of s) 0 ≡ row_of (band_of strip) 1 → (s.more ≡ 0 → AreStill s.runs.items) → IsSmallStrip s
+    → rows_of (band_of s) ≡ rows_from (band_of strip) 1 strip.more → row_of (band_of s) 0 ≡ row_of (band_of strip) 1 → (s.more ≡ 0 → AreStill s.runs.items) → IsGoodBand s
     → IsRestTaken strip init c ((init ++ c ∷ []) ++ s ∷ [])
 rest_begun strip c s init one l n e f k h = record {
   more = λ rows a.

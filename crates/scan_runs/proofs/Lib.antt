@@ -8,3 +8,6 @@ pub mod StripLaws
 pub mod SpanLaws
 pub mod Greedy
 pub mod Joins
+pub mod Steps
+pub mod Settled
+pub mod Groups

@@ -9,11 +9,14 @@ ghost use Rattle.grid_sets.specs.Points.{HasPoint};
 ghost use Rattle.scan_runs.specs.Strips.{all_rows, AreSmallStrips};
 
 mod ends;
+mod group;
 mod merge;
 mod part;
 mod relation;
+mod settle;
 mod span;
 mod split;
+mod step;
 mod strip;
 #[cfg(test)]
 mod tests;
