@@ -11,3 +11,5 @@ pub mod Joins
 pub mod Steps
 pub mod Settled
 pub mod Groups
+pub mod CellLaws
+pub mod OfSet

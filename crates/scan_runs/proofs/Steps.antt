@@ -127,3 +127,10 @@ moves_uneven [] [] h a = h refl
 moves_uneven [] (t ∷ ts) h a = absurd a
 moves_uneven (s ∷ ss) [] h a = absurd a
 moves_uneven (s ∷ ss) (t ∷ ts) h a = moves_uneven ss ts (λ e. h (ap suc e)) a.1
+
+-- a place as the code keeps it
+kept_word : (r : ℤ) → IsNearZero (2 ^ 45) r → to_z w64 (of_z w64 r) ≡ r
+kept_word r h = omega (arith, ints)
+
+pub place_kept : (e : End) (k : ℕ) (r : ℤ) → k ≤ 2 ^ 41 → IsGoodEnd e → r ≡ reach k e → to_z w64 (of_z w64 r) ≡ reach k e
+place_kept e k r l h q = ap (λ (v : ℤ). to_z w64 (of_z w64 v)) q ∙ kept_word (reach k e) (moved_good e.go k e.place (omega arith) h)

@@ -5,3 +5,4 @@ pub mod Parts
 pub mod Places
 pub mod Strips
 pub mod Grouping
+pub mod Cells
