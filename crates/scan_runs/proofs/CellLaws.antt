@@ -1,26 +1,23 @@
 -- A cell is the least octagon round the ends of its first row and its last.
-use Rattle.std.proofs.Common.{◌≡◌, refl, sym, ap, ◌∙◌, subst, inl, inr, ℕ, zero, suc, ◌+◌, ◌<◌, ◌≤◌, ◌^◌, List, [], ◌∷◌, ◌++◌, map, length, get_or, take, append_assoc, arith}
-use Rattle.std.specs.Prelude.{ℤ, pos, ◌+ℤ◌, ◌-ℤ◌, ◌≤ℤ◌, ◌↔◌}
+use Rattle.std.proofs.Common.{◌≡◌, refl, sym, ap, ◌∙◌, subst, ℕ, zero, suc, ◌+◌, ◌<◌, ◌≤◌, List, [], ◌∷◌, ◌++◌, map, length, get_or, take, append_assoc, arith}
+use Rattle.std.specs.Prelude.{ℤ, pos, ◌+ℤ◌, ◌-ℤ◌, ◌≤ℤ◌}
 use Rattle.std.specs.List.{All}
 use Rattle.std.proofs.lemmas.Int.{ints}
 use Rattle.std.proofs.lemmas.List.{take_more, take_all, length-take-le}
 use Rattle.plane.specs.Plane.{Bounds, PlanePoint, Within, In, IsTight, IsOct, grid_point}
-use Rattle.plane.specs.Narrow.{IsNearZero}
 use Rattle.plane.proofs.Moved.{grid_law}
 use Rattle.plane.proofs.Tight.{same_points}
 use Rattle.octagon.specs.Bounded.{IsInReach}
 use Rattle.grid_num.specs.declared.Point.{Point}
-use Rattle.grid_sets.specs.Rows.{Row, IsOnRun, AreRows, AreRowsOf}
-use Rattle.grid_sets.specs.Bands.{moved, reach, at, Band, AreBandsOf}
+use Rattle.grid_sets.specs.Bands.{moved, reach, Band}
 use Rattle.grid_sets.specs.Cells.{leftmost, rightmost, cell_of, cells_of}
-use Rattle.grid_sets.specs.Points.{HasPoint}
 use Rattle.grid_sets.specs.declared.Move.{Move}
 use Rattle.grid_sets.specs.declared.Move.TheVariants.{Left, Still, Right}
 use Rattle.grid_sets.specs.declared.Slant.{Slant}
 use Rattle.grid_sets.proofs.Cells.{run_in_cell}
 use Rattle.scan_runs.specs.Strips.{band_of}
 use Rattle.scan_runs.specs.Grouping.{IsGoodBand, AreGoodBands}
-use Rattle.scan_runs.specs.Cells.{run_cells, numbered_cells, octs_of, AreCellsOf, AreInReach}
+use Rattle.scan_runs.specs.Cells.{run_cells, numbered_cells}
 use Rattle.scan_runs.specs.declared.cell.Cell.{Cell}
 use Rattle.scan_runs.specs.declared.strip.Strip.{Strip}
 
@@ -147,9 +144,9 @@ pub ends_hull : (top : ℤ) (n : ℕ) (s : Slant) (a b c d : Point) (r : Bounds)
 ends_hull top n s a b c d r e o q h l =
     let z = cell_of top n s in
     let held : All (λ p. Within z p.x p.y) (a ∷ b ∷ c ∷ d ∷ []) =
-        all_four (λ p. Within z p.x p.y) a b c d
-        (first_left top n s a.x a.y o.tight e.ax e.ay) (first_right top n s b.x b.y o.tight e.bx e.by)
-        (last_left top n s c.x c.y o.tight e.cx e.cy) (last_right top n s d.x d.y o.tight e.dx e.dy) in
+    all_four (λ p. Within z p.x p.y) a b c d
+    (first_left top n s a.x a.y o.tight e.ax e.ay) (first_right top n s b.x b.y o.tight e.bx e.by)
+    (last_left top n s c.x c.y o.tight e.cx e.cy) (last_right top n s d.x d.y o.tight e.dx e.dy) in
     cell_hull top n s r o.tight q.tight
     (record {
       first_left = within_as r (reach 0 s.from) top a.x a.y (sym e.ax) (sym e.ay) (h 0 a (omega arith));
@@ -182,9 +179,9 @@ run_cells_more b band i n ss d o old start l e f h =
     let m : length (take i ss) ≡ i = length-take-le i ss (omega arith) in
     let z : n ≡ 0 + length (take i ss) = omega arith in
     let whole : run_cells b band 0 (take (i + 1) ss) ≡ run_cells b band 0 (take i ss) ++ (record { oct = o; band = band; run = n }) ∷ [] =
-        ap (λ (v : List Slant). run_cells b band 0 v) (take_more ss i d l)
-        ∙ (run_cells_end b band 0 (take i ss) (get_or ss i d)
-        ∙ ap (λ (v : Cell). run_cells b band 0 (take i ss) ++ v ∷ []) (cell_by b band n (0 + length (take i ss)) (get_or ss i d) o z f)) in
+    ap (λ (v : List Slant). run_cells b band 0 v) (take_more ss i d l)
+    ∙ (run_cells_end b band 0 (take i ss) (get_or ss i d)
+    ∙ ap (λ (v : Cell). run_cells b band 0 (take i ss) ++ v ∷ []) (cell_by b band n (0 + length (take i ss)) (get_or ss i d) o z f)) in
     ap (λ (v : List Cell). v ++ (record { oct = o; band = band; run = n }) ∷ []) h
     ∙ (append_assoc start (run_cells b band 0 (take i ss)) ((record { oct = o; band = band; run = n }) ∷ [])
     ∙ ap (λ (v : List Cell). start ++ v) (sym whole))

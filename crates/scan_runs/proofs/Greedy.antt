@@ -41,12 +41,13 @@ pub grown : (rows extra : List Row) (init : List Band) (b c : Band) → AreBands
 grown rows extra [] b c h e s =
     let whole : rows ≡ rows_of b = h.1 ∙ (ap (λ (t : List Row). rows_of b ++ t) h.3 ∙ append_none (rows_of b)) in
     ([], ap (λ (t : List Row). t ++ extra) whole ∙ (sym e ∙ sym (append_none (rows_of c))), tt, refl, s)
-grown rows extra (a ∷ as_) b c h e s =
-    (h.0 ++ extra,
-    ap (λ (t : List Row). t ++ extra) h.1 ∙ append_assoc (rows_of a) h.0 extra,
-    ends_append a h.0 extra (has_first h.0 as_ b h.3) h.2,
-    grown h.0 extra as_ b c h.3 e s,
-    h.4)
+grown rows extra (a ∷ as_) b c h e s = (
+  h.0 ++ extra,
+  ap (λ (t : List Row). t ++ extra) h.1 ∙ append_assoc (rows_of a) h.0 extra,
+  ends_append a h.0 extra (has_first h.0 as_ b h.3) h.2,
+  grown h.0 extra as_ b c h.3 e s,
+  h.4,
+)
 
 -- one band alone
 pub alone : (c : Band) → (c.more ≡ 0 → AreStill c.runs) → AreBandsOf (rows_of c) (c ∷ [])
@@ -58,12 +59,13 @@ pub begun : (rows : List Row) (init : List Band) (b c : Band) → AreBandsOf row
 begun rows [] b c h n s =
     let whole : rows ≡ rows_of b = h.1 ∙ (ap (λ (t : List Row). rows_of b ++ t) h.3 ∙ append_none (rows_of b)) in
     (rows_of c, ap (λ (t : List Row). t ++ rows_of c) whole, n, alone c s, h.4)
-begun rows (a ∷ as_) b c h n s =
-    (h.0 ++ rows_of c,
-    ap (λ (t : List Row). t ++ rows_of c) h.1 ∙ append_assoc (rows_of a) h.0 (rows_of c),
-    ends_append a h.0 (rows_of c) (has_first h.0 as_ b h.3) h.2,
-    begun h.0 as_ b c h.3 n s,
-    h.4)
+begun rows (a ∷ as_) b c h n s = (
+  h.0 ++ rows_of c,
+  ap (λ (t : List Row). t ++ rows_of c) h.1 ∙ append_assoc (rows_of a) h.0 (rows_of c),
+  ends_append a h.0 (rows_of c) (has_first h.0 as_ b h.3) h.2,
+  begun h.0 as_ b c h.3 n s,
+  h.4,
+)
 
 -- ---- the four steps of the grouping
 abbrev made : ℤ → List Run → Row

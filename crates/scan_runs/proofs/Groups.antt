@@ -1,19 +1,18 @@
 -- The calls that put strips together, each by its case.
-use Rattle.std.proofs.Common.{◌≡◌, refl, sym, ap, ◌∙◌, subst, ℕ, zero, suc, ◌+◌, ◌<◌, ◌≤◌, ◌^◌, List, [], ◌∷◌, ◌++◌, map, length, get_or, take, append_assoc, w64, to_z, of_z, arith, Result, Ok, Err, IfOk}
-use Rattle.std.specs.Prelude.{ℤ, pos, ◌+ℤ◌, ◌-ℤ◌, ◌≤ℤ◌}
+use Rattle.std.proofs.Common.{◌≡◌, refl, sym, ap, ◌∙◌, subst, ℕ, zero, suc, ◌+◌, ◌<◌, ◌≤◌, ◌^◌, List, [], ◌∷◌, ◌++◌, map, length, get_or, take, arith, Result, Ok, Err, IfOk}
+use Rattle.std.specs.Prelude.{ℤ, pos, ◌+ℤ◌}
 use Rattle.std.proofs.lemmas.Int.{ints}
 use Rattle.std.proofs.lemmas.List.{take_more, take_all}
 use Rattle.plane.specs.Narrow.{IsNearZero}
 use Rattle.grid_sets.specs.Rows.{Run, Row}
-use Rattle.grid_sets.specs.Bands.{at, Band, row_of, rows_from, rows_of, AreMovedAlike, AreStill, IsJoining, AreBandsOf}
+use Rattle.grid_sets.specs.Bands.{at, Band, row_of, rows_of, AreMovedAlike, IsJoining}
 use Rattle.grid_sets.specs.declared.Slant.{Slant}
 use Rattle.grid_sets.proofs.BandRows.{append_none, slants_on, slants_told, alike_through}
-use Rattle.scan_runs.specs.Parts.{AreSmall}
 use Rattle.scan_runs.specs.Strips.{band_of, all_rows, IsSmallStrip, AreSmallStrips}
 use Rattle.scan_runs.specs.Grouping.{AreGoodRuns, IsGoodBand, AreGoodBands, AreSteps, HaveNoSteps, AreGrouped, IsTakenIn, IsSettled, IsJoinedBy, IsLonger, IsRestTaken, IsRestOf, IsJoinedSteps, IsLongerStrip, IsExtended}
 use Rattle.scan_runs.specs.declared.strip.Strip.{Strip}
 use Rattle.scan_runs.proofs.Greedy.{later_row}
-use Rattle.scan_runs.proofs.Joins.{taken_first, taken_begun, longer_second, joined_whole, rest_none, rest_grown, rest_begun, small_split}
+use Rattle.scan_runs.proofs.Joins.{longer_second, joined_whole, rest_grown, rest_begun, small_split}
 use Rattle.scan_runs.proofs.StripLaws.{all_more}
 
 pub small_strip_at : (ss : List Strip) (i : ℕ) (d : Strip) → AreSmallStrips ss → i < length ss → IsSmallStrip (get_or ss i d)
@@ -76,7 +75,7 @@ pub longer_later_strip : (last strip s : Strip) (steps : List Slant) → IsSmall
     → s.top ≡ last.top → s.more ≡ last.more + 1 → s.runs.items ≡ last.runs.items → IsLongerStrip last (row_of (band_of strip) 0) s
 longer_later_strip last strip s steps h g j z e f k = record {
   longer = subst (IsLonger (band_of last) (row_of (band_of strip) 0)) (sym (band_by s.top last.top s.more (suc last.more) s.runs.items last.runs.items e (f ∙ next last.more) k))
-    (longer_later (band_of last) (row_of (band_of strip) 0) steps j.joined z);
+      (longer_later (band_of last) (row_of (band_of strip) 0) steps j.joined z);
   good = record {
     runs = subst AreGoodRuns (sym k) g.runs;
     top = subst (λ (v : ℤ). IsNearZero (2 ^ 40) v) (sym e) g.top;

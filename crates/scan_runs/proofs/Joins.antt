@@ -1,17 +1,13 @@
 -- The steps from a band's last row to a strip's first.
-use Rattle.std.proofs.Common.{◌≡◌, refl, sym, ap, ◌∙◌, subst, ℕ, zero, suc, ◌+◌, ◌≤◌, List, [], ◌∷◌, ◌++◌, map, append_assoc, arith}
+use Rattle.std.proofs.Common.{◌≡◌, refl, sym, ap, ◌∙◌, subst, ℕ, suc, ◌+◌, ◌≤◌, List, [], ◌∷◌, ◌++◌, map, append_assoc, arith}
 use Rattle.std.specs.Prelude.{ℤ, pos, ◌+ℤ◌}
-use Rattle.std.proofs.lemmas.Int.{ints}
-use Rattle.std.proofs.lemmas.Bool.{cases_lt}
 use Rattle.grid_sets.specs.Rows.{Run, Row}
-use Rattle.grid_sets.specs.Bands.{moved, reach, at, Band, row_of, rows_from, rows_of, AreMovedAlike, AreStill, IsJoining, AreBandsOf}
-use Rattle.grid_sets.specs.declared.Move.{Move}
-use Rattle.grid_sets.specs.declared.End.{End}
+use Rattle.grid_sets.specs.Bands.{at, Band, row_of, rows_from, rows_of, AreMovedAlike, AreStill, IsJoining, AreBandsOf}
 use Rattle.grid_sets.specs.declared.Slant.{Slant}
 use Rattle.scan_runs.specs.Strips.{band_of}
 use Rattle.scan_runs.specs.Grouping.{IsGoodBand, AreGoodBands, AreGrouped, IsTakenIn, IsSettled, IsJoinedBy, IsLonger, IsRestTaken}
 use Rattle.scan_runs.specs.declared.strip.Strip.{Strip}
-use Rattle.scan_runs.proofs.Greedy.{alone, begun, grown, second_row, later_row, rest_alike, rest_other}
+use Rattle.scan_runs.proofs.Greedy.{alone, begun, grown, second_row, rest_alike, rest_other}
 
 abbrev made : ℤ → List Run → Row
 made y rs = record { y = y; runs = rs }
@@ -50,7 +46,7 @@ grouped_begun : (rows : List Row) (init : List Strip) (last s : Strip) → AreGr
     → AreGrouped (rows ++ rows_of (band_of s)) ((init ++ last ∷ []) ++ s ∷ [])
 grouped_begun rows init last s a n k h = record {
   bands = subst (λ (v : List Band). AreBandsOf (rows ++ rows_of (band_of s)) v) (sym (map_two init last s))
-    (begun rows (map band_of init) (band_of last) (band_of s) (subst (AreBandsOf rows) (map_end init last) a.bands) n k);
+      (begun rows (map band_of init) (band_of last) (band_of s) (subst (AreBandsOf rows) (map_end init last) a.bands) n k);
   small = small_end (init ++ last ∷ []) s a.small h;
 }
 
@@ -59,7 +55,7 @@ grouped_grown : (rows extra : List Row) (init : List Strip) (last c : Strip) →
     → AreGrouped (rows ++ extra) (init ++ c ∷ [])
 grouped_grown rows extra init last c a e k h = record {
   bands = subst (AreBandsOf (rows ++ extra)) (sym (map_end init c))
-    (grown rows extra (map band_of init) (band_of last) (band_of c) (subst (AreBandsOf rows) (map_end init last) a.bands) e k);
+      (grown rows extra (map band_of init) (band_of last) (band_of c) (subst (AreBandsOf rows) (map_end init last) a.bands) e k);
   small = small_end init c (small_split init last a.small).0 h;
 }
 
@@ -71,8 +67,8 @@ pub taken_begun : (strip s last : Strip) (init : List Strip) → IsSettled strip
     → IsTakenIn strip (init ++ last ∷ []) ((init ++ last ∷ []) ++ s ∷ [])
 taken_begun strip s last init k n = record {
   more = λ rows a.
-    subst (λ (v : List Row). AreGrouped (rows ++ v) ((init ++ last ∷ []) ++ s ∷ [])) k.rows
-    (grouped_begun rows init last s a
+      subst (λ (v : List Row). AreGrouped (rows ++ v) ((init ++ last ∷ []) ++ s ∷ [])) k.rows
+      (grouped_begun rows init last s a
       (λ j. n (subst (IsJoining (band_of last)) (settled_row strip.top strip.more strip.runs.items s k) j)) k.still k.small);
 }
 
@@ -93,9 +89,9 @@ longer_second b r steps j z = record {
 pub joined_whole : (strip last c : Strip) (init new : List Strip) → IsLonger (band_of last) (row_of (band_of strip) 0) (band_of c) → IsGoodBand c → IsRestTaken strip init c new → IsTakenIn strip (init ++ last ∷ []) new
 joined_whole strip last c init new l h r = record {
   more = λ rows a.
-    let first = row_of (band_of strip) 0 in
-    let g = grouped_grown rows (first ∷ []) init last c a l.rows (λ z. absurd (none c.more l.more z)) h in
-    subst (λ (v : List Row). AreGrouped v new) (append_assoc rows (first ∷ []) (rows_from (band_of strip) 1 strip.more)) (r.more (rows ++ first ∷ []) g);
+      let first = row_of (band_of strip) 0 in
+      let g = grouped_grown rows (first ∷ []) init last c a l.rows (λ z. absurd (none c.more l.more z)) h in
+      subst (λ (v : List Row). AreGrouped v new) (append_assoc rows (first ∷ []) (rows_from (band_of strip) 1 strip.more)) (r.more (rows ++ first ∷ []) g);
 }
   where
     none : (n : ℕ) → 1 ≤ n → n ≡ 0 → ⊥
@@ -115,8 +111,8 @@ pub rest_grown : (strip c d : Strip) (init : List Strip) → 1 ≤ c.more → ro
     → band_of d ≡ (record { top = c.top; more = c.more + strip.more; runs = c.runs.items }) → IsGoodBand d → IsRestTaken strip init c (init ++ d ∷ [])
 rest_grown strip c d init one l m e h = record {
   more = λ rows a. grouped_grown rows (rows_from (band_of strip) 1 strip.more) init c d a
-    (ap rows_of e ∙ rest_alike (band_of c) (band_of strip) l m)
-    (λ z. absurd (none d.more (ap (λ (v : Band). v.more) e) z)) h;
+      (ap rows_of e ∙ rest_alike (band_of c) (band_of strip) l m)
+      (λ z. absurd (none d.more (ap (λ (v : Band). v.more) e) z)) h;
 }
   where
     none : (n : ℕ) → n ≡ c.more + strip.more → n ≡ 0 → ⊥
@@ -127,6 +123,6 @@ pub rest_begun : (strip c s : Strip) (init : List Strip) → 1 ≤ c.more → ro
     → IsRestTaken strip init c ((init ++ c ∷ []) ++ s ∷ [])
 rest_begun strip c s init one l n e f k h = record {
   more = λ rows a.
-    subst (λ (v : List Row). AreGrouped (rows ++ v) ((init ++ c ∷ []) ++ s ∷ [])) e
-    (grouped_begun rows init c s a (λ j. rest_other (band_of c) (band_of strip) one l n (subst (IsJoining (band_of c)) f j)) k h);
+      subst (λ (v : List Row). AreGrouped (rows ++ v) ((init ++ c ∷ []) ++ s ∷ [])) e
+      (grouped_begun rows init c s a (λ j. rest_other (band_of c) (band_of strip) one l n (subst (IsJoining (band_of c)) f j)) k h);
 }

@@ -1,11 +1,11 @@
 -- The cells of a set: each is an octagon of the program, and there is one list of them.
-use Rattle.std.proofs.Common.{◌≡◌, refl, sym, ap, ◌∙◌, subst, inl, inr, ℕ, zero, suc, ◌+◌, ◌<◌, ◌≤◌, ◌^◌, List, [], ◌∷◌, ◌++◌, map, length, get_or, arith, Result, Ok, Err, IfOk}
-use Rattle.std.specs.Prelude.{ℤ, pos, neg_ℤ, ◌+ℤ◌, ◌-ℤ◌, ◌≤ℤ◌, ◌↔◌}
+use Rattle.std.proofs.Common.{◌≡◌, refl, sym, ap, ◌∙◌, subst, inl, inr, ℕ, zero, suc, ◌<◌, ◌^◌, List, [], ◌∷◌, ◌++◌, map, length, get_or, arith, Result, Ok, Err, IfOk}
+use Rattle.std.specs.Prelude.{ℤ, pos, ◌+ℤ◌, ◌-ℤ◌}
 use Rattle.std.specs.List.{All}
 use Rattle.plane.specs.Plane.{Bounds, Within, IsTight, IsOct}
 use Rattle.plane.specs.Narrow.{IsNearZero}
 use Rattle.plane.proofs.Tight.{top_left_x, top_left_y, top_right_x, bottom_left_y}
-use Rattle.grid_sets.specs.Rows.{Row, OnRows, AreRows, AreRowsOf}
+use Rattle.grid_sets.specs.Rows.{Row, AreRowsOf}
 use Rattle.grid_sets.specs.Bands.{Band, AreBandsOf}
 use Rattle.grid_sets.specs.Cells.{cell_of, cells_of}
 use Rattle.grid_sets.specs.Points.{HasPoint, AreApart}
@@ -16,7 +16,7 @@ use Rattle.grid_sets.proofs.Unique.{rows_law}
 use Rattle.grid_sets.proofs.OneBands.{bands_law}
 use Rattle.scan_runs.specs.Strips.{band_of, all_rows}
 use Rattle.scan_runs.specs.Grouping.{AreGrouped}
-use Rattle.scan_runs.specs.Cells.{run_cells, numbered_cells, octs_of, AreCellsOf, AreInReach, CellsOnceLaw, NoCellsLaw, AreTiles, TilesLaw}
+use Rattle.scan_runs.specs.Cells.{run_cells, numbered_cells, octs_of, AreCellsOf, AreInReach, CellsOnceLaw, NoCellsLaw, TilesLaw}
 use Rattle.scan_runs.specs.declared.cell.Cell.{Cell}
 use Rattle.scan_runs.specs.declared.strip.Strip.{Strip}
 
@@ -39,8 +39,8 @@ pub cells_are_octs : (os : List Bounds) (strips bands : List Strip) → AreRowsO
 cells_are_octs os strips bands a n g k d l =
     oct_by (get_or (cells_of (map band_of bands)) k d) (cells_tight_law (all_rows strips) (map band_of bands) a.are g.bands k d l)
     (λ x y w.
-      let h : HasPoint os x y = (a.same x y).0 ((cells_points (all_rows strips) (map band_of bands) x y g.bands).1 (has_at (cells_of (map band_of bands)) k d x y l w)) in
-      (n.x x y h, n.y x y h))
+    let h : HasPoint os x y = (a.same x y).0 ((cells_points (all_rows strips) (map band_of bands) x y g.bands).1 (has_at (cells_of (map band_of bands)) k d x y l w)) in
+    (n.x x y h, n.y x y h))
 
 -- ---- the cells' octagons
 octs_append : (cs ds : List Cell) → octs_of (cs ++ ds) ≡ octs_of cs ++ octs_of ds
@@ -58,10 +58,9 @@ octs_numbered k (b ∷ bs) =
     ∙ (ap (λ (v : List Bounds). v ++ octs_of (numbered_cells (suc k) bs)) (octs_run_cells b k 0 b.runs)
     ∙ ap (λ (v : List Bounds). map (cell_of b.top b.more) b.runs ++ v) (octs_numbered (suc k) bs))
 
-pub cells_by : {V E : Type 0} (items : V → List Cell) (os : List Bounds) (strips bands : List Strip) (r : Result V E) → AreRowsOf (HasPoint os) (all_rows strips) → AreGrouped (all_rows strips) bands
-    → IfOk r (λ v. items v ≡ numbered_cells 0 (map band_of bands)) → IfOk r (λ v. AreCellsOf (HasPoint os) (items v))
-cells_by items os strips bands (Err e) a g h = h
-cells_by items os strips bands (Ok v) a g h = record {
+cells_are : (os : List Bounds) (strips bands : List Strip) (cells : List Cell) → AreRowsOf (HasPoint os) (all_rows strips) → AreGrouped (all_rows strips) bands → cells ≡ numbered_cells 0 (map band_of bands)
+    → AreCellsOf (HasPoint os) cells
+cells_are os strips bands cells a g h = record {
   rows = all_rows strips;
   bands = map band_of bands;
   are_rows = a;
@@ -69,6 +68,11 @@ cells_by items os strips bands (Ok v) a g h = record {
   numbered = h;
   octs = ap octs_of h ∙ octs_numbered 0 (map band_of bands);
 }
+
+pub cells_by : {V E : Type 0} (items : V → List Cell) (os : List Bounds) (strips bands : List Strip) (r : Result V E) → AreRowsOf (HasPoint os) (all_rows strips) → AreGrouped (all_rows strips) bands
+    → IfOk r (λ v. items v ≡ numbered_cells 0 (map band_of bands)) → IfOk r (λ v. AreCellsOf (HasPoint os) (items v))
+cells_by items os strips bands (Err e) a g h = h
+cells_by items os strips bands (Ok v) a g h = cells_are os strips bands (items v) a g h
 
 -- ---- one list of cells
 pub cells_once : CellsOnceLaw
@@ -86,10 +90,15 @@ no_cells os cells n a =
 pub tiles : TilesLaw
 tiles os cells a = record {
   same = λ x y.
-    let p = cells_points a.rows a.bands x y a.are_bands in
-    let e : HasPoint (octs_of cells) x y → HasPoint (cells_of a.bands) x y = subst (λ (v : List Bounds). HasPoint v x y) a.octs in
-    let f : HasPoint (cells_of a.bands) x y → HasPoint (octs_of cells) x y = subst (λ (v : List Bounds). HasPoint v x y) (sym a.octs) in
-    (λ h. (a.are_rows.same x y).0 (p.1 (e h)), λ h. f (p.0 ((a.are_rows.same x y).1 h)));
+      let p = cells_points a.rows a.bands x y a.are_bands in
+      let e : HasPoint (octs_of cells) x y → HasPoint (cells_of a.bands) x y = subst (λ (v : List Bounds). HasPoint v x y) a.octs in
+      let f : HasPoint (cells_of a.bands) x y → HasPoint (octs_of cells) x y = subst (λ (v : List Bounds). HasPoint v x y) (sym a.octs) in
+      (λ h. (a.are_rows.same x y).0 (p.1 (e h)), λ h. f (p.0 ((a.are_rows.same x y).1 h)));
   apart = subst AreApart (sym a.octs) (cells_apart_law a.rows a.bands a.are_rows.are a.are_bands);
   tight = subst (All IsTight) (sym a.octs) (cells_tight_law a.rows a.bands a.are_rows.are a.are_bands);
 }
+
+pub none_by : {V E : Type 0} (items : V → List Cell) (os : List Bounds) (strips bands : List Strip) (r : Result V E) → AreRowsOf (HasPoint os) (all_rows strips) → AreGrouped (all_rows strips) bands
+    → IfOk r (λ v. items v ≡ numbered_cells 0 (map band_of bands)) → IfOk r (λ v. ((x y : ℤ) → HasPoint os x y → ⊥) → items v ≡ [])
+none_by items os strips bands (Err e) a g h = h
+none_by items os strips bands (Ok v) a g h = λ n. no_cells os (items v) n (cells_are os strips bands (items v) a g h)

@@ -1,6 +1,6 @@
 -- Strips as bands: a row further down, and with still ends where there is one row alone.
-use Rattle.std.proofs.Common.{◌≡◌, refl, sym, ap, ◌∙◌, subst, ℕ, zero, suc, ◌+◌, ◌<◌, ◌≤◌, ◌^◌, List, [], ◌∷◌, ◌++◌, map, length, get_or, take, w64, to_z, of_z, arith, Result, Ok, Err, IfOk}
-use Rattle.std.specs.Prelude.{ℤ, pos, ◌+ℤ◌, ◌-ℤ◌, ◌≤ℤ◌}
+use Rattle.std.proofs.Common.{◌≡◌, refl, sym, ap, ◌∙◌, subst, ℕ, suc, ◌+◌, ◌<◌, ◌≤◌, ◌^◌, List, [], ◌∷◌, ◌++◌, map, length, get_or, take, w64, to_z, of_z, arith, Result, Ok, Err, IfOk}
+use Rattle.std.specs.Prelude.{ℤ, pos, ◌+ℤ◌, ◌≤ℤ◌}
 use Rattle.std.proofs.lemmas.Int.{ints}
 use Rattle.std.proofs.lemmas.List.{take_more, take_all}
 use Rattle.plane.specs.Narrow.{IsNearZero}
@@ -8,15 +8,13 @@ use Rattle.grid_sets.specs.Rows.{Run, Row}
 use Rattle.grid_sets.specs.Bands.{moved, reach, at, Band, row_of, rows_from, rows_of, AreStill}
 use Rattle.grid_sets.specs.declared.Move.{Move}
 use Rattle.grid_sets.specs.declared.Move.TheVariants.{Left, Still, Right}
-use Rattle.grid_sets.specs.declared.End.{End}
 use Rattle.grid_sets.specs.declared.Slant.{Slant}
 use Rattle.grid_sets.proofs.BandRows.{rows_alike}
 use Rattle.scan_runs.specs.Parts.{IsSmallSlant, AreSmall}
-use Rattle.scan_runs.specs.Strips.{band_of, IsSmallStrip}
-use Rattle.scan_runs.specs.Grouping.{IsGoodEnd, IsGoodRun, AreGoodRuns, IsGoodBand, IsAdvancedRun, AreAdvanced, AreStilled, IsSettled, IsRestOf}
+use Rattle.scan_runs.specs.Strips.{band_of}
+use Rattle.scan_runs.specs.Grouping.{IsGoodRun, AreGoodRuns, IsAdvancedRun, AreAdvanced, AreStilled, IsSettled, IsRestOf}
 use Rattle.scan_runs.specs.declared.strip.Strip.{Strip}
 use Rattle.scan_runs.proofs.Steps.{map_end, good_end}
-
 
 abbrev run_of : ℤ → ℤ → Run
 run_of a b = record { from = a; to = b }
@@ -27,10 +25,13 @@ runs_by a b c d e f = cc
 -- ---- strips are good bands
 pub small_good : (ss : List Slant) → AreSmall ss → AreGoodRuns ss
 small_good [] h = tt
-small_good (s ∷ ss) h = (record {
-  from = record { low = omega (arith, ints, h.0.from.low); high = omega (arith, ints, h.0.from.high) };
-  to = record { low = omega (arith, ints, h.0.to.low); high = omega (arith, ints, h.0.to.high) };
-}, small_good ss h.1)
+small_good (s ∷ ss) h = (
+  record {
+    from = record { low = omega (arith, ints, h.0.from.low); high = omega (arith, ints, h.0.from.high) };
+    to = record { low = omega (arith, ints, h.0.to.low); high = omega (arith, ints, h.0.to.high) };
+  },
+  small_good ss h.1,
+)
 
 -- ---- a row further down
 moved_on : (m : Move) (k : ℕ) (a : ℤ) → moved m k (moved m 1 a) ≡ moved m (suc k) a
@@ -46,8 +47,8 @@ moved_near Right a h = record { low = omega (arith, ints); high = omega (arith, 
 advanced_at : (s : Slant) (p q : ℤ) → IsSmallSlant s → p ≡ reach 1 s.from → q ≡ reach 1 s.to → IsAdvancedRun s (record { from = record { place = p; go = s.from.go }; to = record { place = q; go = s.to.go } })
 advanced_at s p q h e f = record {
   rows = λ k. runs_by (moved s.from.go k p) (moved s.to.go k q) (reach (suc k) s.from) (reach (suc k) s.to)
-    (ap (λ (v : ℤ). moved s.from.go k v) e ∙ moved_on s.from.go k s.from.place)
-    (ap (λ (v : ℤ). moved s.to.go k v) f ∙ moved_on s.to.go k s.to.place);
+      (ap (λ (v : ℤ). moved s.from.go k v) e ∙ moved_on s.from.go k s.from.place)
+      (ap (λ (v : ℤ). moved s.to.go k v) f ∙ moved_on s.to.go k s.to.place);
   good = record {
     from = subst (λ (v : ℤ). IsNearZero (2 ^ 44) v) (sym e) (moved_near s.from.go s.from.place h.from);
     to = subst (λ (v : ℤ). IsNearZero (2 ^ 44) v) (sym f) (moved_near s.to.go s.to.place h.to);
@@ -167,7 +168,7 @@ pub rest_by : (strip rest : Strip) (adv : List Slant) (top : ℤ) (more : ℕ) �
 rest_by strip rest adv top more e f a k =
     let c = band top more adv in
     let whole : rows_of c ≡ rows_from (band_of strip) 1 strip.more =
-        rows_alike c (band_of strip) 0 1 (suc more) (λ i. each i) ∙ ap (λ (n : ℕ). rows_from (band_of strip) 1 n) (last_of f) in
+    rows_alike c (band_of strip) 0 1 (suc more) (λ i. each i) ∙ ap (λ (n : ℕ). rows_from (band_of strip) 1 n) (last_of f) in
     record {
       rows = k.rows ∙ whole;
       first = first_row (band_of rest) c k.rows ∙ each 0;
@@ -187,7 +188,7 @@ rest_by strip rest adv top more e f a k =
         let g : 1 + i ≡ suc i = omega arith in
         subst (λ (n : ℕ). row_of (band top more adv) n ≡ row_of (band_of strip) (1 + i)) (sym d)
         (subst (λ (n : ℕ). row_of (band top more adv) i ≡ row_of (band_of strip) n) (sym g)
-          (row_by (top +ℤ pos i) (strip.top +ℤ pos (suc i)) (map (at i) adv) (map (at (suc i)) strip.runs.items) (omega (arith, ints, e)) (a.rows i)))
+        (row_by (top +ℤ pos i) (strip.top +ℤ pos (suc i)) (map (at i) adv) (map (at (suc i)) strip.runs.items) (omega (arith, ints, e)) (a.rows i)))
 
 pub rest_of_by : {E : Type 0} (strip : Strip) (adv : List Slant) (top : ℤ) (more : ℕ) (r : Result Strip E) → top ≡ strip.top +ℤ pos 1 → more + 1 ≡ strip.more → AreAdvanced strip.runs.items adv
     → IfOk r (λ s. IsSettled top more adv s) → IfOk r (λ s. IsRestOf strip s)

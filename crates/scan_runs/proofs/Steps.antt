@@ -1,6 +1,6 @@
 -- The steps from a band's last row to the next one, run by run, and runs with the same moves.
 use Rattle.std.proofs.Common.{◌≡◌, refl, sym, ap, ◌∙◌, subst, ℕ, zero, suc, ◌+◌, ◌<◌, ◌≤◌, ◌^◌, List, [], ◌∷◌, ◌++◌, map, length, get_or, take, w64, to_z, of_z, arith}
-use Rattle.std.specs.Prelude.{ℤ, pos, ◌+ℤ◌, ◌-ℤ◌}
+use Rattle.std.specs.Prelude.{ℤ}
 use Rattle.std.proofs.lemmas.Int.{ints}
 use Rattle.std.proofs.lemmas.List.{take_more, take_all}
 use Rattle.plane.specs.Narrow.{IsNearZero}
@@ -11,7 +11,6 @@ use Rattle.grid_sets.specs.declared.Move.TheVariants.{Left, Still, Right}
 use Rattle.grid_sets.specs.declared.End.{End}
 use Rattle.grid_sets.specs.declared.Slant.{Slant}
 use Rattle.scan_runs.specs.Ends.{IsSmallEnd}
-use Rattle.scan_runs.specs.Parts.{IsSmallSlant, AreSmall}
 use Rattle.scan_runs.specs.Grouping.{IsGoodEnd, IsGoodRun, AreGoodRuns, IsStepTo, HasNoStep, AreSteps, HaveNoSteps}
 
 -- ---- places that the code can count with
@@ -69,7 +68,7 @@ pub steps_more : (n i : ℕ) (upper lower ss : List Slant) (d e s : Slant) → i
 steps_more n i upper lower ss d e s l m h k =
     subst (λ (v : List Slant). AreSteps n v (take (i + 1) lower) (ss ++ s ∷ [])) (sym (take_more upper i d l))
     (subst (λ (v : List Slant). AreSteps n (take i upper ++ get_or upper i d ∷ []) v (ss ++ s ∷ [])) (sym (take_more lower i e m))
-      (step_more n (take i upper) (take i lower) ss (get_or upper i d) (get_or lower i e) s h k))
+    (step_more n (take i upper) (take i lower) ss (get_or upper i d) (get_or lower i e) s h k))
 
 pub steps_all : (n i : ℕ) (upper lower ss : List Slant) → length upper ≡ length lower → length lower ≤ i → AreSteps n (take i upper) (take i lower) ss → AreSteps n upper lower ss
 steps_all n i upper lower ss e l h =
@@ -109,7 +108,7 @@ pub moves_more : (i : ℕ) (ss ts : List Slant) (d e : Slant) → i < length ss 
 moves_more i ss ts d e l m h k =
     subst (λ (v : List Slant). AreMovedAlike v (take (i + 1) ts)) (sym (take_more ss i d l))
     (subst (λ (v : List Slant). AreMovedAlike (take i ss ++ get_or ss i d ∷ []) v) (sym (take_more ts i e m))
-      (alike_more (take i ss) (take i ts) (get_or ss i d) (get_or ts i e) h k))
+    (alike_more (take i ss) (take i ts) (get_or ss i d) (get_or ts i e) h k))
 
 pub moves_all : (i : ℕ) (ss ts : List Slant) → length ss ≡ length ts → length ss ≤ i → AreMovedAlike (take i ss) (take i ts) → AreMovedAlike ss ts
 moves_all i ss ts e l h =

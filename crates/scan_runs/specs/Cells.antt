@@ -1,5 +1,5 @@
 -- The cells of a set, with the numbers of their bands and runs.
-use Rattle.std.specs.Prelude.{◌≡◌, ◌↔◌, ℕ, suc, ◌^◌, List, [], ◌∷◌, ◌++◌, map, ℤ}
+use Rattle.std.specs.Prelude.{◌≡◌, ◌↔◌, ℕ, suc, ◌^◌, List, [], ◌∷◌, ◌++◌, ℤ}
 use Rattle.std.specs.List.{All}
 use Rattle.plane.specs.Plane.{Bounds, IsTight}
 use Rattle.plane.specs.Narrow.{IsNearZero}

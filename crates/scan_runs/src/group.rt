@@ -40,12 +40,7 @@ fn take_in(alloc: Global, bands: &mut Vec<Strip>, strip: &Strip) -> Result<(), M
 }
 
 // Puts the rows of the strip below the last band, which is not among the others.
-fn follow(
-    alloc: Global,
-    bands: &mut Vec<Strip>,
-    last: Strip,
-    strip: &Strip,
-) -> Result<(), Memory>
+fn follow(alloc: Global, bands: &mut Vec<Strip>, last: Strip, strip: &Strip) -> Result<(), Memory>
     requires strip { IsSmallStrip strip.now }
     requires last { IsGoodBand last }
     ensures { IfOk result (λ _. IsTakenIn strip.now (bands.old.items ++ last ∷ []) bands.new.items) }

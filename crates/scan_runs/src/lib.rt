@@ -4,7 +4,7 @@
 //! A coordinate is a unit of the grid (2 nm). x grows to the right and y downward.
 #![tactic(auto)]
 
-ghost use Rattle.std.specs.Prelude.{IfOk};
+ghost use Rattle.std.specs.Prelude.{◌≡◌, [], ℤ, IfOk};
 ghost use Rattle.grid_sets.specs.Rows.{AreRowsOf};
 ghost use Rattle.grid_sets.specs.Points.{HasPoint};
 ghost use Rattle.scan_runs.specs.Strips.{all_rows, AreSmallStrips};
@@ -28,17 +28,18 @@ use crate::cell::numbered;
 use crate::group::group;
 use crate::span::span_of;
 use crate::strip::strips;
+pub use cell::Cell;
 use grid_num::Memory;
 use octagon::Oct;
 use std::alloc::Global;
-pub use cell::Cell;
 pub use strip::Strip;
 
 /// The cells of the octagons' grid points: the runs through the greedy bands of their rows, band by band from the top and
 /// in each band from left to right. Octagons may overlap. Refuses for want of memory alone, or where there are 2^32 bands
 /// or runs of a band.
 pub fn cells_of(alloc: Global, octs: &[Oct]) -> Result<Vec<Cell>, Memory>
-    ensures { IfOk result (λ cells. AreCellsOf (HasPoint octs.now) cells.items) }
+    ensures cells { IfOk result (λ cells. AreCellsOf (HasPoint octs.now) cells.items) }
+    ensures none { IfOk result (λ cells. ((x y : ℤ) → ¬ (HasPoint octs.now x y)) → cells.items ≡ []) }
 {
     let strips = strips_of(alloc, octs)?;
     let bands = group(alloc, &strips)?;

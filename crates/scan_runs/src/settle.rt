@@ -13,12 +13,7 @@ use grid_sets::{End, Move, Slant};
 use std::alloc::Global;
 
 // The strip as a band.
-pub(crate) fn settled(
-    alloc: Global,
-    top: i64,
-    more: u64,
-    runs: &[Slant],
-) -> Result<Strip, Memory>
+pub(crate) fn settled(alloc: Global, top: i64, more: u64, runs: &[Slant]) -> Result<Strip, Memory>
     requires top { IsNearZero (2 ^ 40) top }
     requires bottom { (top +ℤ pos more) ≤ℤ pos (2 ^ 40) }
     requires runs { AreGoodRuns runs.now }

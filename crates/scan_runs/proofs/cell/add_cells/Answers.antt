@@ -14,10 +14,10 @@ pub octagon_of-oct-requires-clause-oct : goal.octagon_of-oct-requires-clause-oct
 octagon_of-oct-requires-clause-oct c =
     rw c.index.ensures
     (cell_oct_as c.args.strip.now.top _ c.args.strip.now.more _ (omega (arith, ints, c.requires.strip.top))
-      (all_map_at IsOct (cell_of c.args.strip.now.top c.args.strip.now.more) c.args.strip.now.runs.items c.runs.i _ c.requires.octs (omega (arith, c.runs-test.true, c.len-i-end.ensures, c.args.strip.now.runs.ok))))
+    (all_map_at IsOct (cell_of c.args.strip.now.top c.args.strip.now.more) c.args.strip.now.runs.items c.runs.i _ c.requires.octs (omega (arith, c.runs-test.true, c.len-i-end.ensures, c.args.strip.now.runs.ok))))
 
 pub runs-preserved : goal.runs-preserved
 runs-preserved c =
     rw c.in_ok-push.ensures.items
     (run_cells_more (band_of c.args.strip.now) c.args.band c.runs.i _ c.args.strip.now.runs.items _ c.octagon_of-oct.result c.runs.cells.items c.args.cells.now.items (omega (arith, c.runs-test.true, c.len-i-end.ensures, c.args.strip.now.runs.ok)) c.in_ok-run.ensures
-      (cell_same c.args.strip.now.top _ c.args.strip.now.more _ _ c.octagon_of-oct.result (omega (arith, ints, c.requires.strip.top)) c.index.ensures c.octagon_of-oct.ensures) c.runs.invariant)
+    (cell_same c.args.strip.now.top _ c.args.strip.now.more _ _ c.octagon_of-oct.result (omega (arith, ints, c.requires.strip.top)) c.index.ensures c.octagon_of-oct.ensures) c.runs.invariant)

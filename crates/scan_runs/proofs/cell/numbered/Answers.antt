@@ -1,4 +1,3 @@
-use Rattle.std.proofs.Common.{arith}
 use Rattle.plane.specs.Plane.{IsOct}
 use Rattle.scan_runs.proofs.CellLaws.{all_band_at, good_band_at, numbered_more}
 use Rattle.scan_runs.proofs.cell.numbered.Goals as goal

@@ -1,5 +1,4 @@
 use Rattle.scan_runs.proofs.Settled.{small_good}
-use Rattle.scan_runs.proofs.Joins.{taken_first}
 use Rattle.scan_runs.proofs.Groups.{last_good}
 use Rattle.scan_runs.proofs.group.take_in.Goals as goal
 

@@ -1,4 +1,4 @@
-use Rattle.std.proofs.Common.{arith, nat_eq}
+use Rattle.std.proofs.Common.{arith}
 use Rattle.scan_runs.proofs.Steps.{moves_more, moves_stop, moves_uneven}
 use Rattle.scan_runs.proofs.step.alike.Goals as goal
 
