@@ -10,6 +10,8 @@ ghost use Rattle.scan_runs.specs.Cells.{AreCellsOf};
 ghost use Rattle.scan_rows.specs.Sets.{IsInSome};
 
 mod apart;
+#[cfg(test)]
+mod band_tests;
 mod count;
 mod cut;
 #[cfg(test)]
