@@ -5,8 +5,8 @@ Each row of the square is taken from the top, with its maximal runs. A row joins
 runs, each end moves by -1, 0 or 1, and, from the band's third row on, by the band's moves; else it begins a new band. A
 cell is one run through one band.
 
-With 40 octagons the test `forty_octagons_leave_the_cells_of_a_script` of the crate scan_rows expects these numbers; with
-1000, `bench/README.md` names them. The argument is the number of octagons.
+The argument is the number of octagons, 40 or 1000. With 40 the test `forty_octagons_leave_the_cells_of_a_script` of the
+crate scan_rows expects these numbers.
 """
 
 import sys
