@@ -1,14 +1,17 @@
 //! Finite sets of grid points with exact set operations, kept as octagons of which no two share a grid point.
-//! The layer above sees a set through `HasPoint` alone: each call says which grid points it has, or how many.
+//! The layer above sees a set through `HasPoint` alone: each call says which grid points it has, how many, or in what cells.
 //! A coordinate is a unit of the grid (2 nm). x grows to the right and y downward.
 #![tactic(auto)]
 
-ghost use Rattle.std.specs.Prelude.{◌≡◌, ◌⊎◌, ◌↔◌, List, ℤ, IsTrue, IfOk, OnOk, OnErr};
+ghost use Rattle.std.specs.Prelude.{◌≡◌, ◌⊎◌, ◌↔◌, List, [], ℤ, IsTrue, IfOk, OnOk, OnErr};
 ghost use Rattle.plane.specs.Plane.{Bounds, Within};
 ghost use Rattle.grid_sets.specs.Points.{HasPoint, AreApart, IsCount};
+ghost use Rattle.scan_runs.specs.Cells.{AreCellsOf};
 ghost use Rattle.scan_rows.specs.Sets.{IsInSome};
 
 mod apart;
+#[cfg(test)]
+mod band_tests;
 mod count;
 mod cut;
 #[cfg(test)]
@@ -18,6 +21,8 @@ use crate::apart::{joined, without, without_all};
 use crate::count::{count_of, has_point};
 use grid_num::{Memory, Point};
 use octagon::Oct;
+pub use scan_runs::Cell;
+use scan_runs::cells_of;
 use std::alloc::Global;
 use std::marker::Model;
 
@@ -112,6 +117,17 @@ impl Rows {
         ensures { IsCount (HasPoint self.now) result }
     {
         count_of(self.kept())
+    }
+
+    /// The cells of the set: the runs through the greedy bands of its rows, band by band from the top and in each band from
+    /// left to right, with both numbers from 0. A set has one list of them, whatever was done to make it (`cells_law` of
+    /// the crate below), and the set without points has none. Refuses for want of memory alone, or where there are 2^32
+    /// bands or runs of a band.
+    pub fn bands(&self, alloc: Global) -> Result<Vec<Cell>, Memory>
+        ensures cells { IfOk result (λ cells. AreCellsOf (HasPoint self.now) cells.items) }
+        ensures none { IfOk result (λ cells. ((x y : ℤ) → ¬ (HasPoint self.now x y)) → cells.items ≡ []) }
+    {
+        cells_of(alloc, self.kept())
     }
 
     // The octagons that are kept: no two have a common grid point.

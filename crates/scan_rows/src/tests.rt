@@ -27,7 +27,7 @@ fn drawn(state: u32, n: u32) -> i64
 
 // Bounds of an octagon, maybe without points, that begins within 40 of the origin and is up to 30 wide and high, with
 // up to 12 cut off at each corner.
-fn generated(seed: u32) -> [i64; 8]
+pub(crate) fn generated(seed: u32) -> [i64; 8]
     ensures { IsInRange (bounds_of result) }
 {
     let a = next(seed);
@@ -55,7 +55,7 @@ fn generated(seed: u32) -> [i64; 8]
 }
 
 // Whether the point meets all eight bounds.
-fn meets_all(b: &[i64; 8], x: i64, y: i64) -> bool {
+pub(crate) fn meets_all(b: &[i64; 8], x: i64, y: i64) -> bool {
     let s = x.wrapping_add(y);
     let d = x.wrapping_sub(y);
     b[0] <= x
@@ -240,7 +240,7 @@ fn round(x: u32, y: u32, r: u32) -> Option<Oct> {
 
 // An octagon of 40 in a square of 10 mm: its centre on a grid of 8 by 5 places, 600,000 and 950,000 units apart, each
 // row moved by 37,000 to the right; it reaches 350,000 and 13,001 more for each place.
-fn stated(i: u32) -> Option<Oct>
+pub(crate) fn stated(i: u32) -> Option<Oct>
     requires { i < 40 }
 {
     let (column, row) = (i % 8, i / 8);

@@ -6,3 +6,10 @@ pub mod PartLaws
 pub mod Places
 pub mod StripLaws
 pub mod SpanLaws
+pub mod Greedy
+pub mod Joins
+pub mod Steps
+pub mod Settled
+pub mod Groups
+pub mod CellLaws
+pub mod OfSet

@@ -8,11 +8,12 @@ use Rattle.plane.specs.Narrow.{IsNearZero}
 use Rattle.grid_sets.specs.Rows.{AreRowsOf}
 use Rattle.grid_sets.specs.Points.{HasPoint}
 use Rattle.scan_runs.specs.Strips.{all_rows, IsSpan, IsWiderSpan, AreSmallStrips, AreStrips}
+use Rattle.scan_runs.specs.Cells.{AreInReach}
 use Rattle.scan_runs.specs.declared.strip.Strip.{Strip}
 use Rattle.scan_runs.proofs.Merging.{has_end}
 
 pub span_none : (top bottom : ℤ) → IsNearZero (2 ^ 40) top → IsNearZero (2 ^ 40) bottom → IsSpan [] top bottom
-span_none top bottom h k = record { points = λ x y e. absurd e; first = h; last = k }
+span_none top bottom h k = record { points = λ x y e. absurd e; across = λ x y e. absurd e; first = h; last = k }
 
 span_step : (o : Bounds) (os : List Bounds) (top bottom upper lower : ℤ) → IsSpan os top bottom → IsWiderSpan o top bottom upper lower → IsSpan (os ++ o ∷ []) upper lower
 span_step o os top bottom upper lower s w =
@@ -22,6 +23,7 @@ span_step o os top bottom upper lower s w =
         | inl m ↦ wide y (s.points x y m)
         | inr v ↦ (through upper o.y0 y w.above.1 v.y_low, through y o.y1 lower v.y_high w.below.1)
       ];
+      across = λ x y h. elim ((has_end os o x y).0 h) [ inl m ↦ s.across x y m | inr v ↦ w.across x y v ];
       first = n.0;
       last = n.1;
     }
@@ -64,3 +66,10 @@ all_rows_of os top bottom t n new s z e a =
 
 pub all_small : (os : List Bounds) (top : ℤ) (n : ℕ) (new : List Strip) → AreStrips os top n [] new → AreSmallStrips new
 all_small os top n new a = subst AreSmallStrips (sym a.added) a.small
+
+-- ---- all points are within reach
+pub span_in_reach : (os : List Bounds) (top bottom : ℤ) → IsSpan os top bottom → AreInReach os
+span_in_reach os top bottom s = record {
+  x = s.across;
+  y = λ x y h. let p = s.points x y h in record { low = omega (arith, ints, p.0, s.first.low); high = omega (arith, ints, p.1, s.last.high) };
+}

@@ -15,7 +15,7 @@ use Rattle.scan_runs.specs.declared.strip.Strip.{Strip}
 use Rattle.scan_runs.specs.Strips.{band_of, all_rows, IsSmallStrip, AreSmallStrips, AreStrips}
 use Rattle.scan_runs.specs.Parts.{IsSoFar, AreOpen, IsKeptOpen}
 
-all_more : (ss ts : List Strip) → all_rows (ss ++ ts) ≡ all_rows ss ++ all_rows ts
+pub all_more : (ss ts : List Strip) → all_rows (ss ++ ts) ≡ all_rows ss ++ all_rows ts
 all_more [] ts = refl
 all_more (s ∷ ss) ts = ap (λ (u : List Row). rows_of (band_of s) ++ u) (all_more ss ts) ∙ sym (append_assoc (rows_of (band_of s)) (all_rows ss) (all_rows ts))
 

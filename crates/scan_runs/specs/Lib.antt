@@ -4,3 +4,5 @@ pub mod Ends
 pub mod Parts
 pub mod Places
 pub mod Strips
+pub mod Grouping
+pub mod Cells

@@ -2,7 +2,7 @@
 use Rattle.std.specs.Prelude.{◌≡◌, ℕ, ◌^◌, List, [], ◌∷◌, ◌++◌, ℤ, pos, ◌+ℤ◌, ◌≤ℤ◌}
 use Rattle.plane.specs.Narrow.{IsNearZero}
 use Rattle.scan_runs.specs.Parts.{AreSmall}
-use Rattle.plane.specs.Plane.{Bounds}
+use Rattle.plane.specs.Plane.{Bounds, Within}
 use Rattle.grid_sets.specs.Rows.{Row}
 use Rattle.grid_sets.specs.Bands.{Band, rows_of}
 use Rattle.scan_runs.specs.Merge.{AreRowsBetween}
@@ -33,9 +33,10 @@ pub record AreStrips (os : List Bounds) (top : ℤ) (n : ℕ) (old new : List St
   pub rows : AreRowsBetween (HasPoint os) top (top +ℤ pos n) (all_rows more)
   pub small : AreSmallStrips more
 
--- all points of the octagons are from top to bottom, within 2 ^ 40
+-- all points of the octagons are from top to bottom, within 2 ^ 40, as are their x
 pub record IsSpan (os : List Bounds) (top bottom : ℤ) : Type 0 where
   pub points : (x y : ℤ) → HasPoint os x y → (top ≤ℤ y) × (y ≤ℤ bottom)
+  pub across : (x y : ℤ) → HasPoint os x y → IsNearZero (2 ^ 40) x
   pub first : IsNearZero (2 ^ 40) top
   pub last : IsNearZero (2 ^ 40) bottom
 
@@ -44,3 +45,4 @@ pub record IsWiderSpan (o : Bounds) (top bottom upper lower : ℤ) : Type 0 wher
   pub above : (upper ≤ℤ top) × (upper ≤ℤ o.y0)
   pub below : (bottom ≤ℤ lower) × (o.y1 ≤ℤ lower)
   pub near : IsNearZero (2 ^ 40) top → IsNearZero (2 ^ 40) bottom → IsNearZero (2 ^ 40) upper × IsNearZero (2 ^ 40) lower
+  pub across : (x y : ℤ) → Within o x y → IsNearZero (2 ^ 40) x

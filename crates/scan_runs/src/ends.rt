@@ -23,7 +23,7 @@ fn is_least(a: i64, b: i64, c: i64) -> bool
 
 // Where the end is k rows further down.
 pub(crate) fn place_at(e: End, k: u64) -> i64
-    requires e { IsSmallEnd e }
+    requires e { IsNearZero (2 ^ 44) e.place }
     requires k { k ≤ 2 ^ 42 }
     ensures { result ≡ reach k e }
 {

@@ -12,4 +12,5 @@ returns c =
         record { low = omega (arith, ints, clamps, n.low, o); high = omega (arith, ints, clamps, n.high, o) },
         record { low = omega (arith, ints, clamps, m.low, o); high = omega (arith, ints, clamps, m.high, o) },
       );
+      across = λ x y w. record { low = omega (arith, ints, w.x_low, o.x_low); high = omega (arith, ints, w.x_high, o.x_high) };
     }

@@ -1,0 +1,6 @@
+use Rattle.std.proofs.Common.{take}
+use Rattle.scan_runs.specs.Grouping.{AreAdvanced}
+use Rattle.scan_runs.proofs.settle.advanced.Given as goal
+
+abbrev pub invariant-runs : goal.invariant-runs
+invariant-runs l = AreAdvanced (take l.run-index l.runs) l.all.items
