@@ -28,7 +28,7 @@ fn numbers(cell: &Cell) -> Numbers {
 }
 
 fn all_numbers(alloc: Global, rows: &Rows) -> Result<Vec<Numbers>, Fail> {
-    let cells = rows.bands(alloc).ok().ok_or("no memory")?;
+    let cells = rows.bands().ok().ok_or("no memory")?;
     let mut all = Vec::new(alloc);
     for cell in &cells {
         all.push(numbers(cell))?;
@@ -60,7 +60,7 @@ fn a_slanted_union_has_three_bands(rt: HostRuntime) -> Result<(), Fail> {
         (2, 0, [20, 22, 5, 5, 25, 27, 15, 17]),
     ];
     assert!(rt; all_numbers(a, &rows)?.as_slice() == wanted.as_slice());
-    assert!(rt; Rows::empty(a).bands(a).ok().ok_or("no memory")?.is_empty());
+    assert!(rt; Rows::empty(a).bands().ok().ok_or("no memory")?.is_empty());
     Ok(())
 }
 
@@ -165,7 +165,7 @@ fn bands_begin_where_plain_rows_begin_them(rt: HostRuntime) -> Result<(), Fail> 
             }
         }
         let rows = Rows::of_octs(a, &octs).ok().ok_or("no memory")?;
-        let cells = rows.bands(a).ok().ok_or("no memory")?;
+        let cells = rows.bands().ok().ok_or("no memory")?;
         assert!(rt;
             first_rows(a, &cells)?.as_slice() == plain_bands(a, &all)?.as_slice(),
             "at {seed}"
@@ -188,7 +188,7 @@ fn forty_octagons_leave_the_cells_of_a_script(rt: HostRuntime) -> Result<(), Fai
         holes.push(stated(i).ok_or("a grid point")?)?;
     }
     rows.minus_all(&holes).ok().ok_or("no memory")?;
-    let cells = rows.bands(a).ok().ok_or("no memory")?;
+    let cells = rows.bands().ok().ok_or("no memory")?;
     let last = cells.last().ok_or("no cell")?;
     assert_eq!(rt; (last.band, cells.len()), (56, 227));
     Ok(())

@@ -121,13 +121,13 @@ impl Rows {
 
     /// The cells of the set: the runs through the greedy bands of its rows, band by band from the top and in each band from
     /// left to right, with both numbers from 0. A set has one list of them, whatever was done to make it (`cells_law` of
-    /// the crate below), and the set without points has none. Refuses for want of memory alone, or where there are 2^32
+    /// the crate below), and the set without points has none. Refuses for want of memory, or where there are 2^32
     /// bands or runs of a band.
-    pub fn bands(&self, alloc: Global) -> Result<Vec<Cell>, Memory>
+    pub fn bands(&self) -> Result<Vec<Cell>, Memory>
         ensures cells { IfOk result (λ cells. AreCellsOf (HasPoint self.now) cells.items) }
         ensures none { IfOk result (λ cells. ((x y : ℤ) → ¬ (HasPoint self.now x y)) → cells.items ≡ []) }
     {
-        cells_of(alloc, self.kept())
+        cells_of(self.alloc, self.kept())
     }
 
     // The octagons that are kept: no two have a common grid point.
