@@ -10,6 +10,3 @@ added3 o a b c x y z p q r = added2 o a (b ++ c) x z p (added2 x b c y z q r)
 pub added6 : (o a b c d e f x y z u v w : List ℕ) → x ≡ o ++ a → y ≡ x ++ b → z ≡ y ++ c → u ≡ z ++ d → v ≡ u ++ e → w ≡ v ++ f
     → w ≡ o ++ (a ++ (b ++ (c ++ (d ++ (e ++ f)))))
 added6 o a b c d e f x y z u v w p q r s t l = added3 o a b (c ++ (d ++ (e ++ f))) x y w p q (added2 y c (d ++ (e ++ f)) z w r (added3 z d e f u v w s t l))
-
-pub added5 : (o a b c d e x y z u v : List ℕ) → x ≡ o ++ a → y ≡ x ++ b → z ≡ y ++ c → u ≡ z ++ d → v ≡ u ++ e → v ≡ o ++ (a ++ (b ++ (c ++ (d ++ e))))
-added5 o a b c d e x y z u v p q r s t = added3 o a b (c ++ (d ++ e)) x y v p q (added3 y c d e z u v r s t)

@@ -1,5 +1,5 @@
 -- One more cell of a row, and one more row.
-use Rattle.std.proofs.Common.{◌≡◌, ◌∙◌, ap, sym, ℕ, zero, suc, ◌+◌, ◌-◌, ◌/◌, ◌<◌, List, [], ◌++◌, append_assoc, append-nil, add-one, arith}
+use Rattle.std.proofs.Common.{◌≡◌, ◌∙◌, ap, sym, ℕ, suc, ◌+◌, ◌-◌, ◌/◌, ◌<◌, List, ◌++◌, append_assoc, append-nil, add-one, arith}
 use Rattle.board_gen.specs.Generated.{next, drawn, place, item_text, number_behind, state_after, number_after, row_text, rows_text}
 
 one_less : (size k : ℕ) → k < size → size - k ≡ suc (size - (k + 1))

@@ -1,5 +1,5 @@
 -- What the first draws are.
-use Rattle.std.specs.Prelude.{◌≡◌, ℕ, List, []}
+use Rattle.std.specs.Prelude.{◌≡◌, []}
 use Rattle.board_gen.specs.Generated.{next, drawn, place, rows_text}
 
 pub record DrawLaw : Type 0 where

@@ -1,13 +1,12 @@
 -- Clusters are classes, and labels are one list.
-use Rattle.std.proofs.Common.{◌≡◌, ℕ, zero, suc, ◌+◌, ◌<◌, ◌≤◌, List, [], ◌∷◌, length, get_or, refl, sym, ap, ◌∙◌, subst, arith}
+use Rattle.std.proofs.Common.{◌≡◌, ℕ, zero, suc, ◌+◌, ◌<◌, List, [], ◌∷◌, length, get_or, refl, sym, ap, ◌∙◌, subst, arith}
 use Rattle.touching.specs.Core.{Touches}
 use Rattle.touching.proofs.Decided.{order_law}
-use Rattle.copper_shape.specs.Shapes.{Copper}
 use Rattle.classes.specs.Classes.{Reaches, IsLeastOf}
 use Rattle.classes.proofs.Reaching.{reaches_self, reaches_link, reaches_then, reaches_back, least_one, least_shared}
 use Rattle.board_language.specs.Board.{Board}
-use Rattle.cluster_rules.specs.Nodes.{Node, Made}
-use Rattle.cluster_rules.specs.Clusters.{AreTouching, AreJoined, AreJoinedAt, IsOneCluster, AreClusters, IsUpTo}
+use Rattle.cluster_rules.specs.Nodes.{Made}
+use Rattle.cluster_rules.specs.Clusters.{AreTouching, AreJoinedAt, IsOneCluster, IsUpTo}
 use Rattle.cluster_rules.specs.Laws.{TouchLaw, JoinLaw, ClusterLaw, OneLabellingLaw, LabelLaw}
 
 pub touch_law : TouchLaw

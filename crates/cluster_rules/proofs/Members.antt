@@ -1,7 +1,7 @@
 -- What the list of nodes holds.
-use Rattle.std.proofs.Common.{◌≡◌, refl, sym, ap, subst, map, ℕ, zero, suc, ◌+◌, ◌≤◌, ◌⊎◌, inl, inr, arith, List, [], ◌∷◌, ◌++◌, length, get_or, slice_get, Option, Some, None}
+use Rattle.std.proofs.Common.{◌≡◌, refl, sym, subst, map, ℕ, zero, suc, ◌+◌, ◌≤◌, ◌⊎◌, inl, inr, arith, List, [], ◌∷◌, ◌++◌, length, slice_get, Some}
 use Rattle.std.proofs.lemmas.Bool.{false≢true}
-use Rattle.std.specs.Prelude.{Bool, true, false, not, cond, ◌==◌, ◌&&◌, flat_map}
+use Rattle.std.specs.Prelude.{Bool, true, false, cond, ◌&&◌, flat_map}
 use Rattle.classes.specs.Classes.{IsOneOf}
 use Rattle.board_language.specs.declared.board.Track.{Track}
 use Rattle.board_language.specs.declared.board.Via.{Via}

@@ -1,9 +1,9 @@
 -- Which nodes touch, the clusters that they make, and where ratsnest lines may end.
-use Rattle.std.specs.Prelude.{◌≡◌, ◌⊎◌, ℕ, zero, suc, ◌+◌, ◌*◌, ◌^◌, ◌<◌, ◌≤◌, Bool, true, false, ◌||◌, ◌&&◌, ◌==◌, int_lt, cond, List, [], ◌∷◌, ◌++◌, map, flat_map, filter, length, get_or, zip, Option, Some, None, slice_get, ℤ, pos, ◌*ℤ◌}
+use Rattle.std.specs.Prelude.{◌≡◌, ℕ, ◌+◌, ◌^◌, ◌<◌, ◌≤◌, Bool, true, false, ◌||◌, ◌&&◌, ◌==◌, int_lt, cond, List, [], ◌∷◌, map, flat_map, length, get_or, zip, Option, Some, None, slice_get, ℤ, pos, ◌*ℤ◌}
 use Rattle.plane.specs.Plane.{Bounds, times}
 use Rattle.grid_num.specs.declared.Point.{Point}
 use Rattle.covering.specs.Corners.{corners_of}
-use Rattle.touching.specs.Core.{Core, area, Touches}
+use Rattle.touching.specs.Core.{area, Touches}
 use Rattle.copper_shape.specs.Shapes.{Copper}
 use Rattle.classes.specs.Classes.{IsOneOf, Reaches, IsLeastOf}
 use Rattle.board_language.specs.Board.{Board}

@@ -1,18 +1,13 @@
 -- The pieces of copper that the report numbers: pads, tracks, vias and parts of fills, each of a net.
-use Rattle.std.specs.Prelude.{◌≡◌, ℕ, zero, suc, ◌+◌, ◌*◌, Bool, true, false, not, cond, ◌&&◌, ◌==◌, List, [], ◌∷◌, ◌++◌, map, flat_map, length, get_or, Option, Some, None, ℤ, pos, ◌*ℤ◌}
-use Rattle.plane.specs.Plane.{Bounds, times}
-use Rattle.grid_num.specs.declared.Point.{Point}
-use Rattle.touching.specs.Core.{Core, area, Touches}
-use Rattle.copper_shape.specs.Shapes.{Copper}
-use Rattle.classes.specs.Classes.{IsOneOf, Reaches, IsLeastOf}
+use Rattle.std.specs.Prelude.{ℕ, zero, suc, Bool, true, false, not, cond, ◌&&◌, ◌==◌, List, [], ◌∷◌, ◌++◌, map, flat_map, length, get_or}
+use Rattle.plane.specs.Plane.{Bounds}
 use Rattle.board_language.specs.declared.PadKind.{PadKind}
 use Rattle.board_language.specs.declared.PadKind.TheVariants.{Plated, Surface, Hole}
 use Rattle.board_language.specs.declared.board.Track.{Track}
 use Rattle.board_language.specs.declared.board.Via.{Via}
 use Rattle.board_language.specs.declared.board.Pad.{Pad}
 use Rattle.board_language.specs.Board.{Board}
-use Rattle.fill_rules.specs.Tasks.{Task, Settings, tasks_from, ranked, has_layer, zone_of}
-use Rattle.fill_rules.specs.Needs.{track_copper, via_copper}
+use Rattle.fill_rules.specs.Tasks.{Task, tasks_from, ranked, zone_of}
 
 -- a fill as it is handed on: its pieces, and for each piece the number of the first piece of its part
 pub record Made : Type 0 where

@@ -1,7 +1,6 @@
 -- Splices are one, and can be undone.
 use Rattle.std.proofs.Common.{◌≡◌, ◌∙◌, refl, ap, sym, ℕ, ◌+◌, List, ◌++◌, take, drop, length, length-append, arith}
 use Rattle.std.proofs.Math.Seq.{take-append_seam, drop-append_seam}
-use Rattle.text_splices.specs.Splice.{IsSplice}
 use Rattle.text_splices.specs.Laws.{OneLaw, SizeLaw, UndoLaw}
 
 -- what stands before a seam, and what behind it

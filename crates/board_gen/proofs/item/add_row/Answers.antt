@@ -1,4 +1,4 @@
-use Rattle.std.proofs.Common.{◌≤◌, ◌<◌, ◌+◌, arith}
+use Rattle.std.proofs.Common.{◌<◌, arith}
 use Rattle.board_gen.proofs.Walks.{text_next, state_next, number_next}
 use Rattle.board_gen.proofs.item.add_row.Goals as goal
 
