@@ -1,0 +1,10 @@
+pub mod Turning
+pub mod Walks
+pub mod Loops
+pub mod Slits
+pub mod Rings
+pub mod Boundary
+pub mod Sheets
+pub mod Laws
+pub mod Examples
+pub mod Tracing

@@ -1,0 +1,11 @@
+pub mod Cuts
+pub mod Inside
+pub mod Slab
+pub mod Lines
+pub mod Merge
+pub mod Slabs
+pub mod Whole
+pub mod Order
+pub mod Right
+pub mod Same
+pub mod Once
