@@ -1,0 +1,10 @@
+use Rattle.fill_pool.proofs.workers.+fn-work_together-join+arg2+fn-work_together-join+arg3+work_together.Given as goal
+
+abbrev pub decreases-join+arg2 : goal.decreases-join+arg2
+decreases-join+arg2 g l = l.half
+
+abbrev pub decreases-join+arg3 : goal.decreases-join+arg3
+decreases-join+arg3 g l = l.rest
+
+abbrev pub decreases-work_together : goal.decreases-work_together
+decreases-work_together g l = l.count

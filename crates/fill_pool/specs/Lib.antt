@@ -1,0 +1,6 @@
+pub mod Runs
+pub mod Slots
+pub mod Fields
+pub mod Laws
+pub mod Workers
+pub mod Narrow

@@ -1,0 +1,97 @@
+-- What may happen in the pool of one board, in the board's own words: tasks by their rank, and which of them reach which.
+use Rattle.std.specs.Prelude.{◌≡◌, ◌↔◌, ℕ, ◌+◌, ◌<◌, ◌≤◌, Bool, true, List, [], ◌∷◌, length, get_or}
+use Rattle.classes.specs.Classes.{IsOneOf}
+use Rattle.board_language.specs.Board.{Board}
+use Rattle.fill_rules.specs.Tasks.{Task, ranked}
+use Rattle.fill_rules.specs.Reach.{IsReaching}
+use Rattle.pool_rules.specs.declared.PoolEvent.{PoolEvent}
+use Rattle.pool_rules.specs.declared.PoolEvent.TheVariants.{Back}
+use Rattle.pool_rules.specs.declared.Slot.TheVariants.{Waiting, Held, Finished}
+use Rattle.pool_rules.specs.Runs.{State, slot_at, opening, run, IsLawful}
+use Rattle.fills.specs.Fills.{Made, IsFillOf}
+
+abbrev pub count_of : Board → ℕ
+count_of b = length (ranked b)
+
+-- reach tells which of the board's tasks reach which
+abbrev pub IsReachOf : Board → (ℕ → ℕ → Bool) → Type 0
+IsReachOf b reach = (j i : ℕ) → (reach j i ≡ true) ↔ ((i < count_of b) × IsReaching b j i)
+
+-- all tasks wait, and then these events happen
+abbrev pub state_of : Board → List PoolEvent → State
+state_of b events = run (opening (count_of b)) events
+
+-- the events are a lawful run over the board's tasks
+unfoldable pub IsRunOf : Board → List PoolEvent → Type 0
+IsRunOf b events = (reach : ℕ → ℕ → Bool) × IsReachOf b reach × IsLawful reach (opening (count_of b)) events
+
+-- the task waits, and each task that reaches it is finished
+pub record IsReadyIn (b : Board) (events : List PoolEvent) (i : ℕ) : Type 0 where
+  pub waiting : slot_at (state_of b events) i ≡ Waiting
+  pub done : (j : ℕ) → IsReaching b j i → slot_at (state_of b events) j ≡ Finished
+
+-- some task was given back
+abbrev pub IsHalted : List PoolEvent → Type 0
+IsHalted events = (worker : ℕ) × (i : ℕ) × IsOneOf (Back worker i) events
+
+-- the one task that may be taken: none was given back, and it is the first in rank order that is ready
+pub record IsNext (b : Board) (events : List PoolEvent) (i : ℕ) : Type 0 where
+  pub calm : IsHalted events → ⊥
+  pub ready : IsReadyIn b events i
+  pub first : (j : ℕ) → j < i → IsReadyIn b events j → ⊥
+
+-- no task is ready
+abbrev pub NoneReady : Board → List PoolEvent → Type 0
+NoneReady b events = (i : ℕ) → IsReadyIn b events i → ⊥
+
+-- the worker holds the task
+abbrev pub IsHeld : Board → List PoolEvent → ℕ → ℕ → Type 0
+IsHeld b events worker i = slot_at (state_of b events) i ≡ Held worker
+
+abbrev pub AllFinished : Board → List PoolEvent → Type 0
+AllFinished b events = (i : ℕ) → i < count_of b → slot_at (state_of b events) i ≡ Finished
+
+abbrev pub NoneHeld : Board → List PoolEvent → Type 0
+NoneHeld b events = (i worker : ℕ) → IsHeld b events worker i → ⊥
+
+-- ---- what a worker is handed
+
+-- leave to fill a task: the task with its rank, and the worker that took it
+pub record Leave : Type 0 where
+  pub task : Task
+  pub number : ℕ
+  pub worker : ℕ
+
+-- the pool holds the ticket's number for the ticket's worker
+abbrev pub IsHolding : Board → List PoolEvent → Leave → Type 0
+IsHolding b events t = IsHeld b events t.worker t.number
+
+-- ---- the tasks that reach a task, and their fills
+
+-- in rank order, and none twice; the first is low or more
+abbrev pub Ascending : ℕ → List ℕ → Type 0
+Ascending low [] = Unit {0}
+Ascending low (j ∷ js) = (low ≤ j) × Ascending (j + 1) js
+
+-- they are the ranks of the tasks that reach the task, in rank order
+pub record AreReaching (b : Board) (i : ℕ) (js : List ℕ) : Type 0 where
+  pub order : Ascending 0 js
+  pub same : (j : ℕ) → IsOneOf j js ↔ IsReaching b j i
+
+-- one by one, the fills of these tasks
+abbrev pub AreFillsOf : Board → List ℕ → List Made → Type 0
+AreFillsOf b [] [] = Unit {0}
+AreFillsOf b [] (f ∷ fs) = ⊥
+AreFillsOf b (j ∷ js) [] = ⊥
+AreFillsOf b (j ∷ js) (f ∷ fs) = IsFillOf b j f × AreFillsOf b js fs
+
+-- they are the fills of exactly the tasks that reach the task, in rank order
+pub record AreFillsAbove (b : Board) (i : ℕ) (fills : List Made) : Type 0 where
+  pub tasks : List ℕ
+  pub reaching : AreReaching b i tasks
+  pub each : AreFillsOf b tasks fills
+
+-- for each task of the board, the ranks of the tasks that reach it
+pub record IsTableOf (b : Board) (table : List (List ℕ)) : Type 0 where
+  pub rows : length table ≡ count_of b
+  pub each : (i : ℕ) → i < count_of b → AreReaching b i (get_or table i [])

@@ -1,0 +1,9 @@
+pub mod Walks
+pub mod Placing
+pub mod Roles
+pub mod Pushed
+pub mod Boxes
+pub mod Near
+pub mod Alike
+pub mod Clearing
+pub mod InRange

@@ -1,0 +1,9 @@
+use Rattle.std.proofs.Common.{◌≡◌, ◌++◌, drop, flat_map, map}
+use Rattle.fill_rules.specs.Tasks.{settings_of}
+use Rattle.knockouts.specs.Obstacles.{gap_needs}
+use Rattle.knockouts.specs.Obstacles.{need_of}
+use Rattle.knockouts.proofs.obstacles.of_gaps.Given as goal
+
+abbrev pub invariant-each : goal.invariant-each
+invariant-each l =
+    map need_of l.needs.items ++ flat_map (gap_needs (settings_of l.zone) l.layer) (drop l.pad-index l.pads) ≡ flat_map (gap_needs (settings_of l.zone) l.layer) l.pads

@@ -1,0 +1,7 @@
+use Rattle.std.proofs.Common.{◌≡◌, ◌++◌, map, drop}
+use Rattle.fill_rules.specs.Tasks.{tasks_from}
+use Rattle.fills.specs.Fills.{task_of}
+use Rattle.knockouts.proofs.rank.filed_tasks.Given as goal
+
+abbrev pub invariant-each : goal.invariant-each
+invariant-each l = map task_of l.tasks.items ++ tasks_from l.items.layers l.i (drop l.i l.zones) ≡ tasks_from l.items.layers 0 l.zones

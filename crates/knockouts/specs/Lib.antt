@@ -1,0 +1,7 @@
+pub mod Items
+pub mod Treatments
+pub mod Obstacles
+pub mod Spokes
+pub mod Reaching
+pub mod Lent
+pub mod Clear
