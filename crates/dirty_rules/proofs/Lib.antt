@@ -1,0 +1,4 @@
+pub mod DirtySets
+pub mod Ranks
+pub mod ZoneEdits
+pub mod Copper

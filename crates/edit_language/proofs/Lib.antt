@@ -1,0 +1,14 @@
+pub mod Pieces
+pub mod Scripts
+pub mod Places
+pub mod Offences
+pub mod Fold
+pub mod Stamps
+pub mod Values
+pub mod Written
+pub mod Steady
+pub mod Standing
+pub mod Lookups
+pub mod Named
+pub mod Spells
+pub mod OneBearer

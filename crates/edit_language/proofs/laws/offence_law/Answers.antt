@@ -1,0 +1,5 @@
+use Rattle.edit_language.proofs.Offences.{one_root, one_offence, no_offence}
+use Rattle.edit_language.proofs.laws.offence_law.Goals as goal
+
+pub returns : goal.returns
+returns c = record { root = one_root; one = one_offence; none = no_offence }

@@ -1,0 +1,11 @@
+pub mod Lines
+pub mod Forms
+pub mod Scripts
+pub mod Stamps
+pub mod Splices
+pub mod Edited
+pub mod Laws
+pub mod FoldLaws
+pub mod StampLaws
+pub mod Rows
+pub mod SpellLaws

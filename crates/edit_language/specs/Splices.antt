@@ -1,0 +1,120 @@
+-- Which piece of a board's text an edit takes out, and what it puts in.
+use Rattle.std.specs.Prelude.{ℕ, ◌-◌, List, [], ◌∷◌, ◌++◌, codes, pos, Option, None, Some}
+use Rattle.std.specs.Fmt.{decimal}
+use Rattle.grid_num.specs.declared.Point.{Point}
+use Rattle.grid_num.specs.Written.{mm_of}
+use Rattle.sexpr_text.specs.Items.{Item}
+use Rattle.sexpr_text.specs.declared.Span.{Span}
+use Rattle.board_language.specs.declared.board.ZoneSpans.{ZoneSpans}
+use Rattle.board_language.specs.Items.{span_of}
+use Rattle.board_language.specs.Zones.{spans_of}
+use Rattle.edit_language.specs.declared.edit.Edit.{Edit}
+use Rattle.edit_language.specs.declared.edit.Edit.TheVariants.{Track, Via, Drop, Priority, Clearance}
+
+-- the bytes from one place to another are taken out, the last place not counted in, and these are put there
+pub record Splice : Type 0 where
+  pub from : ℕ
+  pub to : ℕ
+  pub put : List ℕ
+
+abbrev pub put_at : ℕ → List ℕ → Splice
+put_at place bytes = record { from = place; to = place; put = bytes }
+
+abbrev pub put_for : Span → List ℕ → Splice
+put_for span bytes = record { from = span.from; to = span.to; put = bytes }
+
+-- the place of a list's closing parenthesis
+abbrev pub close_of : Span → ℕ
+close_of list = list.to - 1
+
+-- ---- lists as they are written: (start 0.5 2)
+
+-- each value behind a space
+unfoldable pub values_text : List (List ℕ) → List ℕ
+values_text [] = []
+values_text (value ∷ values) = codes " " ++ (value ++ values_text values)
+
+unfoldable pub list_text : List ℕ → List (List ℕ) → List ℕ
+list_text name values = codes "(" ++ (name ++ (values_text values ++ codes ")"))
+
+abbrev pub point_list : List ℕ → Point → List ℕ
+point_list name p = list_text name (mm_of p.x ∷ mm_of p.y ∷ [])
+
+abbrev pub length_list : List ℕ → ℕ → List ℕ
+length_list name length = list_text name (mm_of (pos length) ∷ [])
+
+abbrev pub whole_list : List ℕ → ℕ → List ℕ
+whole_list name number = list_text name (decimal number ∷ [])
+
+abbrev pub quoted : List ℕ → List ℕ
+quoted name = codes "\"" ++ (name ++ codes "\"")
+
+-- ---- new tracks and vias
+
+-- a list on a line of its own
+abbrev pub line_text : List ℕ → List ℕ
+line_text list = codes "  " ++ (list ++ codes "\n")
+
+unfoldable pub track_line : Point → Point → ℕ → List ℕ → ℕ → List ℕ → List ℕ
+track_line from to width layer net stamp =
+    line_text (list_text (codes "segment") (
+    point_list (codes "start") from
+    ∷ point_list (codes "end") to
+    ∷ length_list (codes "width") width
+    ∷ list_text (codes "layer") (quoted layer ∷ [])
+    ∷ whole_list (codes "net") net
+    ∷ list_text (codes "tstamp") (stamp ∷ [])
+    ∷ []))
+
+unfoldable pub via_line : Point → ℕ → ℕ → List ℕ → List ℕ → ℕ → List ℕ → List ℕ
+via_line at size drill top bottom net stamp =
+    line_text (list_text (codes "via") (
+    point_list (codes "at") at
+    ∷ length_list (codes "size") size
+    ∷ length_list (codes "drill") drill
+    ∷ list_text (codes "layers") (quoted top ∷ quoted bottom ∷ [])
+    ∷ whole_list (codes "net") net
+    ∷ list_text (codes "tstamp") (stamp ∷ [])
+    ∷ []))
+
+-- directly before the board's closing parenthesis
+abbrev pub put_before_close : Span → List ℕ → Splice
+put_before_close board line = put_at (close_of board) line
+
+-- ---- a track or via that is taken away
+
+abbrev pub take_out : Span → Splice
+take_out span = put_for span []
+
+-- ---- a zone's priority and clearance, by where its lists stand
+
+abbrev pub behind_space : List ℕ → List ℕ
+behind_space list = codes " " ++ list
+
+-- in place of the zone's `priority`; where there is none, at the zone's tail
+abbrev pub priority_by : Option Span → ℕ → ℕ → Splice
+priority_by (Some list) tail value = put_for list (whole_list (codes "priority") value)
+priority_by None tail value = put_at tail (behind_space (whole_list (codes "priority") value))
+
+unfoldable pub priority_splice : ZoneSpans → ℕ → Splice
+priority_splice zone value = priority_by zone.priority zone.tail value
+
+-- In place of the `clearance` in the zone's `connect_pads`; where there is none, directly before that list's closing
+-- parenthesis; where there is no `connect_pads` either, with one at the zone's tail.
+abbrev pub clearance_by : Option Span → Option Span → ℕ → ℕ → Splice
+clearance_by (Some list) connect tail value = put_for list (length_list (codes "clearance") value)
+clearance_by None (Some connect) tail value = put_at (close_of connect) (behind_space (length_list (codes "clearance") value))
+clearance_by None None tail value = put_at tail (behind_space (list_text (codes "connect_pads") (length_list (codes "clearance") value ∷ [])))
+
+unfoldable pub clearance_splice : ZoneSpans → ℕ → Splice
+clearance_splice zone value = clearance_by zone.clearance zone.connect zone.tail value
+
+-- ---- all of them
+
+-- what an edit does to the text of this board, where the item has the stamp that the edit names
+unfoldable pub splice_of : List ℕ → Item → Edit → Item → Splice
+splice_of text board (Track from to width layer net stamp) item = put_before_close (span_of board) (track_line from to width layer net stamp)
+splice_of text board (Via at size drill top bottom net stamp) item = put_before_close (span_of board) (via_line at size drill top bottom net stamp)
+splice_of text board (Drop stamp) item = take_out (span_of item)
+splice_of text board (Priority stamp value) item = priority_splice (spans_of text item) value
+splice_of text board (Clearance stamp value) item = clearance_splice (spans_of text item) value
