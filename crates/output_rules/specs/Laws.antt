@@ -1,0 +1,47 @@
+-- The laws of what is written and said.
+use Rattle.std.specs.Prelude.{◌≡◌, ◌↔◌, ℕ, ◌+◌, ◌<◌, List, [], length}
+use Rattle.classes.specs.Classes.{IsOneOf}
+use Rattle.sexpr_text.specs.Items.{Item}
+use Rattle.sexpr_text.specs.Trees.{IsRoot}
+use Rattle.board_language.specs.declared.board.Rules.{Rules}
+use Rattle.board_language.specs.Board.{Board}
+use Rattle.board_language.specs.Reading.{board_of}
+use Rattle.fill_rules.specs.Ranking.{IsSortedBy}
+use Rattle.cluster_rules.specs.Nodes.{Node, Made, nodes_of}
+use Rattle.cluster_rules.specs.Clusters.{net_of}
+use Rattle.output_rules.specs.Pieces.{Piece, AreInOrder, AreReplaced, replaced, put_size, out_size}
+use Rattle.output_rules.specs.Output.{Traced, pieces_of, text_without_fills, text_with_rings}
+use Rattle.output_rules.specs.Report.{Report}
+use Rattle.output_rules.specs.Reported.{nets_of, IsReport}
+
+-- Pieces that lie in order within a text are replaced, and all other bytes stay, each in its order: by one text and no other.
+pub record ReplacedLaw : Type 0 where
+  pub made : (text : List ℕ) (ps : List Piece) → AreInOrder 0 (length text) ps → AreReplaced 0 ps text (replaced 0 ps text)
+  pub one : (text new other : List ℕ) (ps : List Piece) → AreReplaced 0 ps text new → AreReplaced 0 ps text other → new ≡ other
+  pub size : (text new : List ℕ) (ps : List Piece) → AreReplaced 0 ps text new → length new + out_size ps ≡ length text + put_size ps
+
+-- some node has this net
+pub record IsNetOfNode (b : Board) (fills : List Made) (net : ℕ) : Type 0 where
+  pub node : Node
+  pub is : IsOneOf node (nodes_of b fills)
+  pub net_is : net ≡ net_of b node
+
+abbrev pub IsBelow : ℕ → ℕ → Type 0
+IsBelow m n = m < n
+
+-- The nets of a report are those of its nodes, each once, in the order of their numbers.
+pub record NetsLaw : Type 0 where
+  pub members : (b : Board) (fills : List Made) (net : ℕ) → IsOneOf net (nets_of b fills) ↔ IsNetOfNode b fills net
+  pub sorted : (b : Board) (fills : List Made) → IsSortedBy IsBelow (nets_of b fills)
+
+-- At most one report fits a board, its fills and their outlines.
+abbrev pub OneReportLaw : Type 0
+OneReportLaw = (b : Board) (fills : List Made) (traced : List Traced) (r s : Report) → IsReport b fills traced r → IsReport b fills traced s → r ≡ s
+
+-- The pieces that the fills of an accepted board replace lie in order within its text.
+abbrev pub PlacedLaw : Type 0
+PlacedLaw = (text : List ℕ) (root : Item) (rules : Rules) (traced : List Traced) → IsRoot text root → AreInOrder 0 (length text) (pieces_of text (board_of text root rules) traced)
+
+-- Where there are no rings, what is written is the text without its old fills.
+abbrev pub BareLaw : Type 0
+BareLaw = (text : List ℕ) (b : Board) → AreInOrder 0 (length text) (pieces_of text b []) → text_with_rings text b [] ≡ text_without_fills text b

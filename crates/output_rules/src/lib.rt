@@ -1,0 +1,54 @@
+//! What a run writes and says: the written board, the report, and the lines beside it.
+//! The layer above uses the definitions of `specs/`, and calls that give the texts of the definitions byte for byte.
+//! Coordinates are nanometres, areas square nanometres, places bytes from the front of the text.
+#![tactic(auto)]
+
+ghost use Rattle.output_rules.specs.Laws.{ReplacedLaw, PlacedLaw, BareLaw, NetsLaw, OneReportLaw};
+ghost use Rattle.output_rules.specs.Rows.{RowsLaw};
+
+mod add;
+mod name;
+mod pieces;
+mod report;
+mod rings;
+#[cfg(test)]
+mod tests;
+
+pub use name::{Cluster, Name};
+pub use pieces::{Piece, are_in_order, replaced, zone_pieces};
+pub use report::{
+    Copper, NetLines, NodeLine, RatsnestLine, TaskLine, refilled_text, report_text, summary_text,
+    unjoined,
+};
+pub use rings::{Ring, rings_text};
+
+/// Pieces that lie in order within a text are replaced, and all other bytes stay, each in its order: by one text and no other,
+/// of the size that it must have.
+pub fn replaced_law()
+    ensures { ReplacedLaw }
+{}
+
+/// The pieces that the fills of an accepted board replace lie in order within its text.
+pub fn placed_law()
+    ensures { PlacedLaw }
+{}
+
+/// Where there are no rings, what is written is the text without its old fills.
+pub fn bare_law()
+    ensures { BareLaw }
+{}
+
+/// The nets of a report are those of its nodes, each once, in the order of their numbers.
+pub fn nets_law()
+    ensures { NetsLaw }
+{}
+
+/// At most one report fits a board, its fills and their outlines.
+pub fn report_law()
+    ensures { OneReportLaw }
+{}
+
+/// Small boards worked by hand: what is written of them, and what is said.
+pub fn rows()
+    ensures { RowsLaw }
+{}

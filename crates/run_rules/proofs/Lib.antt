@@ -1,0 +1,4 @@
+pub mod Sorted
+pub mod OneDue
+pub mod Wanteds
+pub mod Readings

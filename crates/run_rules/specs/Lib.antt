@@ -1,0 +1,9 @@
+pub mod Words
+pub mod Status
+pub mod Complaint
+pub mod Items
+pub mod Due
+pub mod Leaves
+pub mod Laws
+pub mod Rows
+pub mod Read

@@ -1,0 +1,34 @@
+//! A run, seen from outside: what its words are, what is due of it, how it ends, and what each answer leaves.
+//! The layer above uses the definitions of `specs/` and their laws, and the calls for statuses and complaints.
+//! Places are numbers of bytes, lines and edits count from 1, lengths are nanometres.
+#![tactic(auto)]
+
+ghost use Rattle.run_rules.specs.Laws.{WantedLaw};
+ghost use Rattle.run_rules.specs.Rows.{CommandRows, FaultRows, OrderRows, ComplaintRows};
+
+mod commands;
+mod complaints;
+mod ended;
+mod reading;
+#[cfg(test)]
+mod tests;
+mod values;
+mod words;
+
+pub use commands::read_words;
+pub use complaints::{Line, complaint};
+pub use ended::{Ended, Role, status};
+pub use words::{Command, FileName, Flag, UsageFault, WordsError};
+
+/// Words are a command, or have a first fault: just one of the two.
+pub fn wanted_law()
+    ensures { WantedLaw }
+{}
+
+/// Words worked by hand, and what runs complain.
+pub fn rows()
+    ensures commands { CommandRows }
+    ensures faults { FaultRows }
+    ensures order { OrderRows }
+    ensures complaints { ComplaintRows }
+{}
