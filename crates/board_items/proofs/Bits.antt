@@ -1,9 +1,9 @@
 -- Sets of layers, from the last layer to the first.
 use Rattle.std.proofs.Common.{◌≡◌, ℕ, zero, suc, ◌+◌, ◌-◌, ◌*◌, ◌<◌, ◌≤◌, Bool, true, false, cond, List, [], ◌∷◌, length, map, drop, get_or, refl, sym, ap, ◌∙◌, arith}
-use Rattle.std.specs.Prelude.{◌^◌, Option, None}
+use Rattle.std.specs.Prelude.{◌^◌, None}
 use Rattle.std.proofs.lemmas.List.{length-drop, length-map}
 use Rattle.std.proofs.lemmas.Simd.{map-map}
-use Rattle.board_language.specs.Layers.{bits, is_among, meant_in, layer_set}
+use Rattle.board_language.specs.Layers.{bits, between_from, is_between, layer_set}
 use Rattle.board_parts.proofs.Walks.{drop_here, drop_past}
 
 -- n bits make a number below 2 ^ n
@@ -61,3 +61,38 @@ pub all_bits : {X Y : Type 0} (f : Y → Bool) (g : X → Y) (xs : List X) (step
 all_bits f g xs step set l h =
     let z : length xs - step ≡ 0 = omega (arith, l) in
     h ∙ ap (λ k. bits (map (λ x. f (g x)) (drop k xs))) z ∙ ap bits (sym (map-map f g xs))
+
+-- ---- the layers between two
+
+pub between_length : (a b k n : ℕ) → length (between_from a b k n) ≡ n
+between_length a b k zero = refl
+between_length a b k (suc n) = ap suc (between_length a b (suc k) n)
+
+pub none_between : (a b k : ℕ) → 0 ≡ bits (between_from a b k 0)
+unfolding bits
+none_between a b k = refl
+
+-- one more layer before those that are done
+pub between_more : (a b n step set : ℕ) → step < n → set ≡ bits (between_from a b (n - step) step)
+    → 2 * set + cond (is_between a b (n - 1 - step)) 1 0 ≡ bits (between_from a b (n - (step + 1)) (step + 1))
+unfolding bits
+between_more a b n step set l h =
+    let next : suc (n - 1 - step) ≡ n - step = omega (arith, l) in
+    let same : n - 1 - step ≡ n - (step + 1) = omega arith in
+    let more : suc step ≡ step + 1 = omega arith in
+    let there : bits (between_from a b (n - 1 - step) (suc step)) ≡ cond (is_between a b (n - 1 - step)) 1 0 + 2 * bits (between_from a b (n - step) step) =
+    ap (λ m. cond (is_between a b (n - 1 - step)) 1 0 + 2 * bits (between_from a b m step)) next in
+    let turned : 2 * set + cond (is_between a b (n - 1 - step)) 1 0 ≡ bits (between_from a b (n - 1 - step) (suc step)) = omega (arith, h, there) in
+    turned ∙ ap (λ m. bits (between_from a b m (suc step))) same ∙ ap (λ m. bits (between_from a b (n - (step + 1)) m)) more
+
+-- with fewer than 32 layers done, the set is below 2 ^ 31
+pub between_below : (a b n step set : ℕ) → n ≤ 32 → step < n → set ≡ bits (between_from a b (n - step) step) → set < 2 ^ 31
+between_below a b n step set m l h =
+    let e = between_length a b (n - step) step in
+    let p = bits_below (between_from a b (n - step) step) 31 (omega (arith, m, l, e)) in
+    omega (arith, h, p)
+
+pub all_between : (a b n step set : ℕ) → step ≡ n → set ≡ bits (between_from a b (n - step) step) → set ≡ bits (between_from a b 0 n)
+all_between a b n step set e h =
+    let z : n - step ≡ 0 = omega (arith, e) in
+    h ∙ ap (λ k. bits (between_from a b k step)) z ∙ ap (λ k. bits (between_from a b 0 k)) e

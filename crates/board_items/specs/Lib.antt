@@ -1,2 +1,4 @@
+pub mod Found
 pub mod Known
+pub mod Stamps
 pub mod Things

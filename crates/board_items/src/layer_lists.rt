@@ -131,7 +131,7 @@ pub fn has_unknown(alloc: Global, known: &Known, list: &Part<'_>) -> Result<bool
     Ok(has_other(&known.copper, &meant))
 }
 
-fn bit(test: bool) -> u32
+pub(crate) fn bit(test: bool) -> u32
     ensures value { result ≡ cond test 1 0 }
     ensures most { result ≤ 1 }
 {

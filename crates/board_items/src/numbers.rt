@@ -3,21 +3,26 @@ ghost use Rattle.std.specs.Prelude.{◌≡◌, ◌++◌, ◌∷◌, [], length, 
 ghost use Rattle.board_language.specs.Items.{has_number};
 
 use grid_num::Memory;
+use indexmap::IndexSet;
 use std::alloc::Global;
 use std::marker::Model;
 
-/// Numbers in their order. Contracts see the list.
+/// Numbers in their order, each found by its hash. Contracts see the list.
 #[derive(Drop)]
 pub struct Numbers {
     numbers: Vec<u32>,
+    found: IndexSet<u32>,
 }
 
 impl Model for Numbers {
     ghost use Rattle.std.specs.Prelude.{ℕ, List};
+    ghost use Rattle.board_items.specs.Found.{AreFound};
 
     ghost Value = { List ℕ };
 
     ghost view = { λ n. n.numbers.items };
+
+    ghost invariant = { λ n. AreFound n.found.keys n.numbers.items };
 }
 
 impl Numbers {
@@ -27,6 +32,7 @@ impl Numbers {
     {
         Numbers {
             numbers: Vec::new(alloc),
+            found: IndexSet::new(alloc),
         }
     }
 
@@ -39,6 +45,8 @@ impl Numbers {
         ensures ok { OnOk result (self.new ≡ self.old ++ number ∷ []) }
         ensures err { OnErr result (self.new ≡ self.old) }
     {
+        self.numbers.reserve(1)?;
+        self.found.insert(number)?;
         self.numbers.push(number)?;
         Ok(())
     }
@@ -47,12 +55,13 @@ impl Numbers {
     pub fn has(&self, number: u32) -> bool
         ensures { result ≡ has_number self.now number }
     {
-        has_one(&self.numbers, number)
+        self.found.contains(&number)
     }
-}
 
-fn has_one(numbers: &[u32], number: u32) -> bool
-    ensures { result ≡ has_number numbers.now number }
-{
-    numbers.iter().any(|other| *other == number)
+    /// All of them, in their order.
+    pub fn numbers(&self) -> &[u32]
+        ensures { result.now ≡ self.now }
+    {
+        self.numbers.as_slice()
+    }
 }

@@ -1,14 +1,17 @@
 // The board itself, its layers and its nets.
-ghost use Rattle.std.specs.Prelude.{◌≡◌, ◌∷◌, [], not, ◌&&◌, nat_lt, is_none, length, map, filter_map, option_map, codes, Some, IfOk};
+ghost use Rattle.std.specs.Prelude.{◌≡◌, ◌∷◌, [], not, ◌&&◌, nat_lt, is_none, length, map, cond, filter_map, option_map, codes, None, Some, IfOk};
 ghost use Rattle.std.specs.List.{list_any};
 ghost use Rattle.board_language.specs.Fields.{list_of};
 ghost use Rattle.board_language.specs.Numbers.{whole_fault_at, value_at, whole_number};
 ghost use Rattle.board_language.specs.Offences.{is_version, is_version_number, board_kind, net_kind};
-ghost use Rattle.board_language.specs.Items.{declared_net, stamp_in};
+ghost use Rattle.board_language.specs.Items.{declared_net, declared_nets, stamp_in};
+ghost use Rattle.board_language.specs.Reading.{context_of};
+ghost use Rattle.sexpr_text.specs.Items.{is_headed};
 ghost use Rattle.board_items.specs.Known.{context};
 
-use crate::Known;
+use crate::stack::copper_names;
 use crate::tests_of::{first_kind, number_kind, when};
+use crate::{Known, Numbers};
 use board_language::OffenceKind;
 use board_parts::{Part, whole_fault, whole_number};
 use grid_num::Memory;
@@ -110,4 +113,48 @@ pub fn stamp_in(alloc: Global, item: &Part<'_>) -> Result<Option<Vec<u8>>, Memor
         Some(list) => list.text_at(alloc, 0),
         None => Ok(None),
     }
+}
+
+/// The number that an item declares, where it is a net.
+fn net_at(alloc: Global, item: &Part<'_>) -> Result<Option<u32>, Memory>
+    ensures { IfOk result (λ n. n ≡ cond (is_headed item.now.bytes (codes "net") item.now.item) (declared_net item.now.bytes item.now.item) None) }
+{
+    if item.is_headed(b"net") {
+        declared_net(alloc, item)
+    } else {
+        Ok(None)
+    }
+}
+
+/// The numbers of all nets that a board declares, in order.
+///
+/// # Errors
+///
+/// Want of memory.
+pub fn declared_nets(alloc: Global, board: &Part<'_>) -> Result<Numbers, Memory>
+    ensures { IfOk result (λ n. n ≡ declared_nets board.now.bytes board.now.item) }
+{
+    let mut nets = Numbers::new(alloc);
+    'each: for place in 0..board.len() {
+        let item = board.child(place);
+        if let Some(number) = net_at(alloc, &item)? {
+            nets.push(number)?;
+        }
+    }
+    Ok(nets)
+}
+
+/// What holds for the whole board: its copper layers and its nets.
+///
+/// # Errors
+///
+/// Want of memory.
+#[tactic(auto, unfolding(board_language::specs::Reading::context_of))]
+pub fn known_of(alloc: Global, board: &Part<'_>) -> Result<Known, Memory>
+    ensures { IfOk result (λ known. context board.now.bytes known ≡ context_of board.now.bytes board.now.item) }
+{
+    Ok(Known {
+        copper: copper_names(alloc, board)?,
+        nets: declared_nets(alloc, board)?,
+    })
 }

@@ -8,6 +8,7 @@ ghost use Rattle.board_items.specs.Known.{context};
 use crate::Known;
 use crate::lists::{has_short, lacks};
 use crate::sizes::{is_no_size, size_of};
+use crate::stack::layers_between;
 use crate::tests_of::{first_kind, number_kind, when};
 use board_language::{OffenceKind, Track, Via};
 use board_parts::{Part, first_of};
@@ -233,4 +234,20 @@ fn via_in(alloc: Global, item: &Part<'_>, layers: u32, line: u64) -> Result<Via,
         span: item.span(),
         line,
     })
+}
+
+/// The via that is read of an item on this line, of a board with at most 32 copper layers.
+///
+/// # Errors
+///
+/// Want of memory.
+#[tactic(auto, unfolding(board_language::specs::Tracks::via_of))]
+pub fn via_of(alloc: Global, known: &Known, item: &Part<'_>, line: u64) -> Result<Via, Memory>
+    requires few { length known.now.copper ≤ 32 }
+    requires line { line ≡ line_of item.now.bytes item.now.item.from }
+    ensures { IfOk result (λ v. v ≡ via_of (context item.now.bytes known.now) item.now.item) }
+{
+    let names = layer_names(alloc, item, b"layers")?;
+    let layers = layers_between(&known.copper, name_at(&names, 0), name_at(&names, 1));
+    via_in(alloc, item, layers, line)
 }

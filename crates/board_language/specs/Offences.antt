@@ -410,8 +410,14 @@ kind_as c before p outline Other = None
 unfoldable pub kind_with : Context → List Placed → Placed → Option OutlineFault → Option OffenceKind
 kind_with c before p outline = kind_as c before p outline (thing_of c.bytes p)
 
+-- a zone or rule area that is read has an outline, which is tried
+abbrev pub has_outline : Context → Item → Thing → Bool
+has_outline c item Zone = zones.is_read_zone c item
+has_outline c item RuleArea = zones.is_read_area c item
+has_outline c item _ = false
+
 -- how the item offends after those before it, or that it doesn't
 pub record IsKindOf (c : Context) (before : List Placed) (p : Placed) (kind : Option OffenceKind) : Type 0 where
   pub outline : Option OutlineFault
-  pub is_outline : IsOutlineResult (zones.corners_of c.bytes p.item) outline
+  pub is_outline : has_outline c p.item (thing_of c.bytes p) ≡ true → IsOutlineResult (zones.corners_of c.bytes p.item) outline
   pub is_kind : kind ≡ kind_with c before p outline

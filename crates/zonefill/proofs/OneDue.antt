@@ -12,15 +12,19 @@ use Rattle.sexpr_text.proofs.FaultLaws.{same_fault, no_fault}
 use Rattle.sexpr_text.specs.Trees.{IsRoot}
 use Rattle.sexpr_text.specs.Faults.{IsFault}
 use Rattle.sexpr_text.specs.declared.error.TextFault.{TextFault}
+use Rattle.board_language.specs.declared.offence.OffenceKind.{OffenceKind}
+use Rattle.board_language.specs.Reading.{IsAccepted, IsOffence}
+use Rattle.board_model.specs.declared.error.Offence.{Offence}
+use Rattle.board_model.proofs.OneOffence.{one_offence, no_offence}
 use Rattle.first_board.proofs.Unique.{same_board}
 use Rattle.zone_fill.specs.Rings.{AreRings}
 use Rattle.zone_fill.proofs.OneList.{one_list}
 use Rattle.zonefill.specs.declared.ended.Ended.{Ended}
-use Rattle.zonefill.specs.declared.ended.Ended.TheVariants.{Done, Usage, TooLong, BadText, Unbuilt, Unreadable, Unwritten, Memory}
+use Rattle.zonefill.specs.declared.ended.Ended.TheVariants.{Done, Usage, TooLong, BadText, Refused, Unbuilt, Unreadable, Unwritten, Memory}
 use Rattle.zonefill.specs.Words.{Wanted, wanted}
 use Rattle.zonefill.specs.Words.Wanted.{Wrong, Fill}
 use Rattle.zonefill.specs.Output.{IsFilled, zone_of, with_rings}
-use Rattle.zonefill.specs.Due.{Due, IsDue, OwesWords, OwesFile, OwesText, OwesBoard, OneDueLaw}
+use Rattle.zonefill.specs.Due.{Due, IsDue, OwesWords, OwesFile, OwesText, OwesTree, OwesBoard, OneDueLaw}
 use Rattle.zonefill.specs.Due.Due.{Refuse, Write}
 use Rattle.zonefill.specs.Leaves.{Leaves, IsCaused, IsQuiet, IsAnswerTo}
 
@@ -30,11 +34,17 @@ item kind from to inner = record { kind = kind; from = from; to = to; inner = in
 abbrev placed : ℕ → TextKind → TextFault
 placed at kind = record { at = at; kind = kind }
 
+abbrev offending : ℕ → ℕ → OffenceKind → Offence
+offending at line kind = record { at = at; line = line; kind = kind }
+
 same_item : (root other : Item) → root.kind ≡ other.kind → root.from ≡ other.from → root.to ≡ other.to → root.inner ≡ other.inner → root ≡ other
 same_item root other p q r t = let h : item root.kind root.from root.to root.inner ≡ item other.kind other.from other.to other.inner = cc in h
 
 same_fault_record : (fault other : TextFault) → fault.at ≡ other.at → fault.kind ≡ other.kind → fault ≡ other
 same_fault_record fault other p q = let h : placed fault.at fault.kind ≡ placed other.at other.kind = cc in h
+
+same_offence : (offence other : Offence) → offence.at ≡ other.at → offence.line ≡ other.line → offence.kind ≡ other.kind → offence ≡ other
+same_offence offence other p q r = let h : offending offence.at offence.line offence.kind ≡ offending other.at other.line other.kind = cc in h
 
 one_root : (text : List ℕ) (root other : Item) → IsRoot text root → IsRoot text other → root ≡ other
 one_root text root other r o =
@@ -49,6 +59,11 @@ one_fault text fault other f o =
     let same = same_fault text fault.at other.at fault.kind other.kind f o in
     same_fault_record fault other same.0 same.1
 
+one_refused : (text : List ℕ) (root : Item) (offence other : Offence) → IsOffence text root offence.at offence.line offence.kind → IsOffence text root other.at other.line other.kind → offence ≡ other
+one_refused text root offence other f o =
+    let same = one_offence text root offence.at offence.line other.at other.line offence.kind other.kind f o in
+    same_offence offence other same.0 same.1 same.2
+
 one_filled : (text : List ℕ) (root : Item) (filled other : List ℕ) → IsFilled text root filled → IsFilled text root other → filled ≡ other
 one_filled text root filled other f o =
     let b : f.board ≡ o.board = same_board text root f.board o.board f.is_board o.is_board in
@@ -61,12 +76,18 @@ one_of_board text root output due other (inl f) (inr o) = absurd (o.0 f.1.board 
 one_of_board text root output due other (inr f) (inl o) = absurd (f.0 o.1.board o.1.is_board)
 one_of_board text root output due other (inr f) (inr o) = f.1 ∙ sym o.1
 
+one_of_tree : (text : List ℕ) (root : Item) (output : List ℕ) (due other : Due) → OwesTree text root output due → OwesTree text root output other → due ≡ other
+one_of_tree text root output due other (inl f) (inl o) = f.2 ∙ ap (λ offence. Refuse (Refused offence)) (one_refused text root f.0 o.0 f.1 o.1) ∙ sym o.2
+one_of_tree text root output due other (inl f) (inr o) = absurd (no_offence text root f.0.at f.0.line f.0.kind o.0 f.1)
+one_of_tree text root output due other (inr f) (inl o) = absurd (no_offence text root o.0.at o.0.line o.0.kind f.0 o.1)
+one_of_tree text root output due other (inr f) (inr o) = one_of_board text root output due other f.1 o.1
+
 one_of_text : (text output : List ℕ) (due other : Due) → OwesText text output due → OwesText text output other → due ≡ other
 one_of_text text output due other (inl f) (inl o) = f.2 ∙ ap (λ fault. Refuse (BadText fault)) (one_fault text f.0 o.0 f.1 o.1) ∙ sym o.2
 one_of_text text output due other (inl f) (inr o) = absurd (no_fault text _ f.0.at f.0.kind o.1.spelt f.1)
 one_of_text text output due other (inr f) (inl o) = absurd (no_fault text _ o.0.at o.0.kind f.1.spelt o.1)
 one_of_text text output due other (inr f) (inr o) =
-    one_of_board text o.0 output due other (subst (λ root. OwesBoard text root output due) (one_root text f.0 o.0 f.1 o.1) f.2) o.2
+    one_of_tree text o.0 output due other (subst (λ root. OwesTree text root output due) (one_root text f.0 o.0 f.1 o.1) f.2) o.2
 
 one_of_file : (text output : List ℕ) (due other : Due) → OwesFile text output due → OwesFile text output other → due ≡ other
 one_of_file text output due other (inl f) (inl o) = f.1 ∙ sym o.1
@@ -89,6 +110,7 @@ answers_due Done words before now s t due l c q d = subst (IsAnswerTo Done) (one
 answers_due (Usage fault) words before now s t due l c q d = one_due words s due (Refuse (Usage fault)) d l.0
 answers_due (TooLong role taken) words before now s t due l c q d = one_due words s due (Refuse (TooLong role taken)) d l.0
 answers_due (BadText fault) words before now s t due l c q d = one_due words s due (Refuse (BadText fault)) d l.0
+answers_due (Refused offence) words before now s t due l c q d = one_due words s due (Refuse (Refused offence)) d l.0
 answers_due Unbuilt words before now s t due l c q d = one_due words s due (Refuse Unbuilt) d l.0
 answers_due (Unreadable role) words before now s t due l c q d = absurd (q.reading c)
 answers_due (Unwritten given) words before now s t due l c q d = absurd (q.writing c)

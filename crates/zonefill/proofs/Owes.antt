@@ -7,7 +7,8 @@ use Rattle.desk.specs.Room.{cost_of, HasRoom}
 use Rattle.desk.proofs.Rooms.{cost_within}
 use Rattle.sexpr_text.specs.Items.{Item}
 use Rattle.sexpr_text.specs.Trees.{IsRoot}
-use Rattle.zonefill.specs.declared.ended.Ended.TheVariants.{Usage, TooLong, BadText, Unbuilt}
+use Rattle.board_language.specs.Reading.{IsAccepted}
+use Rattle.zonefill.specs.declared.ended.Ended.TheVariants.{Usage, TooLong, BadText, Refused, Unbuilt}
 use Rattle.zonefill.specs.declared.ended.Role.TheVariants.{In}
 use Rattle.zonefill.specs.declared.ended.UsageFault.{UsageFault}
 use Rattle.zonefill.specs.declared.filled.Refusal.{Refusal}
@@ -52,14 +53,16 @@ pub leaves_refused : (words : List (List ℕ)) (input output text : List ℕ) (s
 leaves_refused words input output text s refusal.Memory e same short owed = refl
 leaves_refused words input output text s (refusal.BadText fault) e same short owed =
     (owes_text words input output text s (Refuse (BadText fault)) e same short (inl (fault, owed, refl)), refl)
+leaves_refused words input output text s (refusal.Refused offence) e same short owed =
+    (owes_text words input output text s (Refuse (Refused offence)) e same short (inr (owed.0, owed.1, inl (offence, owed.2, refl))), refl)
 leaves_refused words input output text s refusal.Unbuilt e same short owed =
-    (owes_text words input output text s (Refuse Unbuilt) e same short (inr (owed.0, owed.1, inr (owed.2, refl))), refl)
+    (owes_text words input output text s (Refuse Unbuilt) e same short (inr (owed.0, owed.1, inr (owed.2, inr (owed.3, refl)))), refl)
 
 -- a text that is filled
 pub owes_filled : (words : List (List ℕ)) (input output text filled : List ℕ) (s : Seen) → wanted words ≡ Fill input output → text ≡ content input s → length text ≤ 67108864
-    → (root : Item) × IsRoot text root × IsFilled text root filled → IsDue words s (Write output filled)
+    → (root : Item) × IsRoot text root × IsAccepted text root × IsFilled text root filled → IsDue words s (Write output filled)
 owes_filled words input output text filled s e same short f =
-    owes_text words input output text s (Write output filled) e same short (inr (f.0, f.1, inl (filled, f.2, refl)))
+    owes_text words input output text s (Write output filled) e same short (inr (f.0, f.1, inr (f.2, inl (filled, f.3, refl))))
 
 -- there is room for a complaint
 pub room_to_complain : (words : List (List ℕ)) (told : Option Seen) (room : Option ℕ) → ((n : ℕ) → room ≡ Some n → IsSome told) → HasRoomFor words told room → HasRoom room 256
@@ -98,7 +101,7 @@ cut_short name bytes given s new some (inr part) = (with_file name (take given b
 
 -- the bytes that are written are due
 pub due_bytes : (words : List (List ℕ)) (input output read text written bytes : List ℕ) (s : Seen) → wanted words ≡ Fill input output → text ≡ read → read ≡ content input s → length read ≤ 67108864
-    → written ≡ bytes → (root : Item) × IsRoot text root × IsFilled text root bytes → IsDue words s (Write output written)
+    → written ≡ bytes → (root : Item) × IsRoot text root × IsAccepted text root × IsFilled text root bytes → IsDue words s (Write output written)
 due_bytes words input output read text written bytes s e t same short w f =
     subst (λ b. IsDue words s (Write output b)) (sym w)
     (owes_filled words input output text bytes s e (t ∙ same) (subst (λ x. length x ≤ 67108864) (sym t) short) f)

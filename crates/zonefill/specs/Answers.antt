@@ -2,7 +2,7 @@
 use Rattle.whole_files.specs.declared.ReadStop.{ReadStop}
 use Rattle.whole_files.specs.declared.ReadStop.TheVariants as stop
 use Rattle.zonefill.specs.declared.ended.Ended.{Ended}
-use Rattle.zonefill.specs.declared.ended.Ended.TheVariants.{TooLong, BadText, Unbuilt, Unreadable, Memory}
+use Rattle.zonefill.specs.declared.ended.Ended.TheVariants.{TooLong, BadText, Refused, Unbuilt, Unreadable, Memory}
 use Rattle.zonefill.specs.declared.ended.Role.TheVariants.{In}
 use Rattle.zonefill.specs.declared.filled.Refusal.{Refusal}
 use Rattle.zonefill.specs.declared.filled.Refusal.TheVariants as refusal
@@ -15,4 +15,5 @@ answer_of_stop stop.TooLong = TooLong In 67108865
 abbrev pub answer_of : Refusal → Ended
 answer_of refusal.Memory = Memory
 answer_of (refusal.BadText fault) = BadText fault
+answer_of (refusal.Refused offence) = Refused offence
 answer_of refusal.Unbuilt = Unbuilt

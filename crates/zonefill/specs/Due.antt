@@ -5,10 +5,12 @@ use Rattle.sexpr_text.specs.Items.{Item}
 use Rattle.sexpr_text.specs.Trees.{IsRoot}
 use Rattle.sexpr_text.specs.Faults.{IsFault}
 use Rattle.sexpr_text.specs.declared.error.TextFault.{TextFault}
+use Rattle.board_language.specs.Reading.{IsAccepted, IsOffence}
+use Rattle.board_model.specs.declared.error.Offence.{Offence}
 use Rattle.first_board.specs.Board as Board
 use Rattle.first_board.specs.Form.{IsFirstForm}
 use Rattle.zonefill.specs.declared.ended.Ended.{Ended}
-use Rattle.zonefill.specs.declared.ended.Ended.TheVariants.{Usage, TooLong, BadText, Unbuilt}
+use Rattle.zonefill.specs.declared.ended.Ended.TheVariants.{Usage, TooLong, BadText, Refused, Unbuilt}
 use Rattle.zonefill.specs.declared.ended.Role.TheVariants.{In}
 use Rattle.zonefill.specs.Words.{Wanted, wanted}
 use Rattle.zonefill.specs.Words.Wanted.{Wrong, Fill}
@@ -19,17 +21,23 @@ pub data Due : Type 0 where
   Refuse : Ended → Due
   Write : (name bytes : List ℕ) → Due
 
--- what the text of a tree owes: its filled board, or that it is no board that is filled yet
+-- what the text of an accepted board owes: its filled board, or that it is of no form that is filled yet
 abbrev pub OwesBoard : List ℕ → Item → List ℕ → Due → Type 0
 OwesBoard text root output due =
     ((filled : List ℕ) × IsFilled text root filled × (due ≡ Write output filled))
     ⊎ (((board : Board.Shown) → IsFirstForm text root board → ⊥) × (due ≡ Refuse Unbuilt))
 
+-- what the text of a tree owes: the first offence of its board, or what the accepted board owes
+abbrev pub OwesTree : List ℕ → Item → List ℕ → Due → Type 0
+OwesTree text root output due =
+    ((offence : Offence) × IsOffence text root offence.at offence.line offence.kind × (due ≡ Refuse (Refused offence)))
+    ⊎ (IsAccepted text root × OwesBoard text root output due)
+
 -- what a text owes: its fault, or what its one tree owes
 abbrev pub OwesText : List ℕ → List ℕ → Due → Type 0
 OwesText text output due =
     ((fault : TextFault) × IsFault text fault.at fault.kind × (due ≡ Refuse (BadText fault)))
-    ⊎ ((root : Item) × IsRoot text root × OwesBoard text root output due)
+    ⊎ ((root : Item) × IsRoot text root × OwesTree text root output due)
 
 -- what a file owes: that it is too long, or what its text owes
 abbrev pub OwesFile : List ℕ → List ℕ → Due → Type 0

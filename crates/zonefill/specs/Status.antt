@@ -1,7 +1,7 @@
 -- The exit status of a run.
 use Rattle.std.specs.Prelude.{ℕ}
 use Rattle.zonefill.specs.declared.ended.Ended.{Ended}
-use Rattle.zonefill.specs.declared.ended.Ended.TheVariants.{Done, Usage, TooLong, BadText, Unbuilt, Unreadable, Unwritten, Memory}
+use Rattle.zonefill.specs.declared.ended.Ended.TheVariants.{Done, Usage, TooLong, BadText, Refused, Unbuilt, Unreadable, Unwritten, Memory}
 
 -- 0 where it is done, 1 where a file is refused, 2 where the words are, 3 for a fault of a file, 4 for want of memory
 abbrev pub status_of : Ended → ℕ
@@ -9,6 +9,7 @@ status_of Done = 0
 status_of (Usage fault) = 2
 status_of (TooLong role taken) = 1
 status_of (BadText fault) = 1
+status_of (Refused offence) = 1
 status_of Unbuilt = 1
 status_of (Unreadable role) = 3
 status_of (Unwritten given) = 3

@@ -3,10 +3,11 @@ ghost use Rattle.std.specs.Prelude.{◌≡◌, ◌+◌, ◌≤◌, ◌++◌, ◌
 ghost use Rattle.std.specs.Fmt.{decimal};
 ghost use Rattle.arrayvec.specs.ArrayVec.{array_vec_len};
 ghost use lib.Chars.{codes};
-ghost use Rattle.zonefill.specs.Complaint.{complaint_of, kind_name, role_name};
+ghost use Rattle.zonefill.specs.Complaint.{complaint_of, kind_name, offence_name, role_name};
 
 use crate::ended::{Ended, Role};
 use arrayvec::ArrayVec;
+use board_language::OffenceKind;
 use itoa::Buffer;
 use sexpr_text::TextKind;
 
@@ -59,6 +60,43 @@ fn kind_end(kind: TextKind) -> &'static [u8]
     }
 }
 
+/// The end of a line that names what offends.
+fn offence_end(kind: OffenceKind) -> &'static [u8]
+    ensures name { result.now ≡ codes ": " ++ (offence_name kind ++ codes "\n") }
+    ensures short { length result.now ≤ 16 }
+{
+    match kind {
+        OffenceKind::NotBoard => b": NotBoard\n",
+        OffenceKind::Version => b": Version\n",
+        OffenceKind::CurvedTrack => b": CurvedTrack\n",
+        OffenceKind::CopperGraphic => b": CopperGraphic\n",
+        OffenceKind::FootprintEdge => b": FootprintEdge\n",
+        OffenceKind::FootprintZone => b": FootprintZone\n",
+        OffenceKind::EdgeCurve => b": EdgeCurve\n",
+        OffenceKind::Teardrop => b": Teardrop\n",
+        OffenceKind::HatchFill => b": HatchFill\n",
+        OffenceKind::Smoothing => b": Smoothing\n",
+        OffenceKind::IslandArea => b": IslandArea\n",
+        OffenceKind::ManyOutlines => b": ManyOutlines\n",
+        OffenceKind::PolygonArc => b": PolygonArc\n",
+        OffenceKind::PadType => b": PadType\n",
+        OffenceKind::PadShape => b": PadShape\n",
+        OffenceKind::PadOffset => b": PadOffset\n",
+        OffenceKind::MissingPart => b": MissingPart\n",
+        OffenceKind::Number(_) => b": Number\n",
+        OffenceKind::Angle => b": Angle\n",
+        OffenceKind::BadSize => b": BadSize\n",
+        OffenceKind::Thin => b": Thin\n",
+        OffenceKind::DoubleLayer => b": DoubleLayer\n",
+        OffenceKind::UnknownLayer => b": UnknownLayer\n",
+        OffenceKind::DoubleNet => b": DoubleNet\n",
+        OffenceKind::UnknownNet => b": UnknownNet\n",
+        OffenceKind::DoubleStamp => b": DoubleStamp\n",
+        OffenceKind::Outline(_) => b": Outline\n",
+        OffenceKind::TooMany => b": TooMany\n",
+    }
+}
+
 /// A line about a number.
 fn number_line(first: &[u8], number: u64, last: &[u8]) -> Line
     requires { length first.now + length last.now ≤ 80 }
@@ -84,6 +122,11 @@ pub fn complaint(ended: &Ended) -> Line
             b"zonefill: byte ",
             fault.at as u64,
             kind_end(fault.kind),
+        ),
+        Ended::Refused(offence) => number_line(
+            b"zonefill: line ",
+            offence.line,
+            offence_end(offence.kind),
         ),
         Ended::Unbuilt => line_of(b"zonefill: not built yet\n", b"", b""),
         Ended::Unreadable { role } => line_of(b"zonefill: ", role_bytes(role), b" can't be read\n"),

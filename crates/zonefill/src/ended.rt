@@ -2,6 +2,7 @@
 ghost use Rattle.std.specs.Prelude.{◌≡◌};
 ghost use Rattle.zonefill.specs.Status.{status_of};
 
+use board_model::Offence;
 use sexpr_text::TextFault;
 
 /// Which file an answer is about.
@@ -31,7 +32,9 @@ pub enum Ended {
     TooLong { role: Role, taken: u64 },
     /// The text of the board is no text.
     BadText(TextFault),
-    /// The text is one, and no board that is filled yet.
+    /// The board has an offence; this is the first.
+    Refused(Offence),
+    /// The board is accepted, and of no form that is filled yet.
     Unbuilt,
     /// A file couldn't be read.
     Unreadable { role: Role },
@@ -47,7 +50,7 @@ pub fn status(ended: &Ended) -> u8
 {
     match ended {
         Ended::Done => 0,
-        Ended::TooLong { .. } | Ended::BadText(_) | Ended::Unbuilt => 1,
+        Ended::TooLong { .. } | Ended::BadText(_) | Ended::Refused(_) | Ended::Unbuilt => 1,
         Ended::Usage(_) => 2,
         Ended::Unreadable { .. } | Ended::Unwritten { .. } => 3,
         Ended::Memory => 4,

@@ -2,11 +2,14 @@
 ghost use Rattle.std.specs.Prelude.{◌≡◌, IfOk, IfErr, IfSome, IfNone, IsErrOf};
 ghost use Rattle.sexpr_text.specs.Items.{Item};
 ghost use Rattle.sexpr_text.specs.Trees.{IsRoot};
+ghost use Rattle.board_language.specs.Reading.{IsAccepted};
 ghost use Rattle.first_board.specs.Board.{shown};
 ghost use Rattle.zonefill.specs.Filled.{IsOwed, IsOutlineOf};
 ghost use Rattle.zonefill.specs.Output.{IsFilled};
 
 use crate::board_text::text_with_rings;
+use board_language::Rules;
+use board_model::{Board, BoardError, Offence};
 use first_board::FirstBoard;
 use grid_num::Memory;
 use sexpr_text::{TextError, TextFault};
@@ -18,6 +21,7 @@ use zone_fill::{Rect, fill_rectangle};
 pub enum Refusal {
     Memory,
     BadText(TextFault),
+    Refused(Offence),
     Unbuilt,
 }
 
@@ -45,6 +49,25 @@ impl From<TextError> for Refusal {
     }
 }
 
+impl From<BoardError> for Refusal {
+    ghost use Rattle.zonefill.specs.Filled.{IsOfBoard};
+
+    ghost from_gives = { IsOfBoard };
+
+    fn from(error: BoardError) -> Self {
+        match error {
+            BoardError::Memory => Refusal::Memory,
+            BoardError::Bad(offence) => Refusal::Refused(offence),
+        }
+    }
+}
+
+/// The clearances of every board: 0.2 mm everywhere, and 0.5 mm to its edge.
+const RULES: Rules = Rules {
+    floor: 200_000,
+    edge: 500_000,
+};
+
 /// The sides of the board's zone.
 fn outline_of(board: &FirstBoard) -> Rect
     ensures { IsOutlineOf (shown board.now) result }
@@ -59,10 +82,11 @@ fn outline_of(board: &FirstBoard) -> Rect
 
 /// The text of the filled board.
 pub fn filled(alloc: Global, text: &[u8]) -> Result<Vec<u8>, Refusal>
-    ensures filled { IfOk result (λ v. (root : Item) × IsRoot text.now root × IsFilled text.now root v.items) }
+    ensures filled { IfOk result (λ v. (root : Item) × IsRoot text.now root × IsAccepted text.now root × IsFilled text.now root v.items) }
     ensures refused { IfErr result (IsOwed text.now) }
 {
     let tree = sexpr_text::read(alloc, text)?;
+    Board::read(alloc, text, &tree, RULES)?;
     let Some(board) = first_board::read(alloc, text, &tree)? else {
         return Err(Refusal::Unbuilt);
     };

@@ -25,6 +25,7 @@ fn refused(refusal: Refusal) -> Ended
     match refusal {
         Refusal::Memory => Ended::Memory,
         Refusal::BadText(fault) => Ended::BadText(fault),
+        Refusal::Refused(offence) => Ended::Refused(offence),
         Refusal::Unbuilt => Ended::Unbuilt,
     }
 }

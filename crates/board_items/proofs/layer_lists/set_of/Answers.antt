@@ -1,4 +1,4 @@
-use Rattle.std.proofs.Common.{◌≡◌, ◌∙◌, ◌-◌, ◌<◌, ◌^◌, ap, sym, cond, arith, length, map}
+use Rattle.std.proofs.Common.{◌∙◌, ◌-◌, ◌<◌, ◌^◌, arith, length, map}
 use Rattle.board_language.specs.Layers.{is_among}
 use Rattle.board_parts.proofs.Walks.{get_same}
 use Rattle.board_items.proofs.Bits.{no_bit, all_bits, bit_more, set_below}

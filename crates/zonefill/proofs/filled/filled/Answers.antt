@@ -19,6 +19,7 @@ returns-clause-filled c =
     let bounds = some_of _ _ _ _ c.in-Some.is c.in_ok-board.ensures.bounds in (
       found.root,
       found.is_tree.is_root,
+      (c.in_ok-read.ensures.board found.root found.is_tree).0,
       record {
         board = board;
         is_board = is_board;

@@ -53,7 +53,7 @@ returns-in-Ok-write_all-clause-room g c = room_left _ _ _ 256 (room_after (map s
 pub returns-clause-leaves : goal.returns-clause-leaves
 returns-clause-leaves g c s e =
     let f = c.in-Ok-filled.ensures.filled in
-    let some = subst (λ b. 0 < length b) (sym c.deref-2.ensures.value) (some_bytes c.deref.result.now c.in-Ok-filled.bytes.items f.0 f.1 f.2) in
+    let some = subst (λ b. 0 < length b) (sym c.deref-2.ensures.value) (some_bytes c.deref.result.now c.in-Ok-filled.bytes.items f.0 f.1 f.3) in
     let cut = cut_short c.in-Ok.names.output.now c.deref-2.result.now c.in-Err-write_all.given s _ some (c.in-Err-write_all.ensures.cut s (c.in-Ok-read_all.ensures.seen ∙ e)) in (
       cut.0,
       (

@@ -1,0 +1,12 @@
+pub mod Running
+pub mod Marked
+pub mod Found
+pub mod First
+pub mod Few
+pub mod Rooms
+pub mod Kept
+pub mod LineFeeds
+pub mod Parts
+pub mod Whole
+pub mod Places
+pub mod OneOffence

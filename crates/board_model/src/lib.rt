@@ -1,0 +1,23 @@
+//! The board of a text's tree, or the first offence in it. The layer above uses `Board::read` and the readers of `Board`;
+//! contracts see the board that `board_language` defines, with the stamps of its things.
+//! Lengths and places on the board are nanometres, places in the text are bytes.
+#![tactic(auto)]
+
+mod board;
+mod copper;
+mod error;
+mod items;
+mod laws;
+mod lines;
+mod name;
+mod pads;
+mod reading;
+#[cfg(test)]
+mod tests;
+mod zones;
+
+pub use board::Board;
+pub use board_items::Stamped;
+pub use error::{BoardError, Offence};
+pub use laws::one_offence_law;
+pub use name::Name;
