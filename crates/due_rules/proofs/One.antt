@@ -47,7 +47,7 @@ size_of (negsuc n) = 0
 one_traced : (pieces : List Bounds) (t u : Traced) → AreOutlines pieces t → AreOutlines pieces u → t ≡ u
 one_traced pieces t u h g =
     let strips = once_law (in_nanometres pieces) h.strips g.strips h.are_strips g.are_strips in
-    let rings : t.rings ≡ u.rings = one_rings_law (in_nanometres pieces) g.strips t.rings u.rings g.are_strips (subst (λ ss. AreRings ss t.rings) strips h.are_rings) g.are_rings in
+    let rings : t.rings ≡ u.rings = one_rings_law g.strips t.rings u.rings (record { shapes = g.are_strips.shapes; order = g.are_strips.order }) (subst (λ ss. AreRings ss t.rings) strips h.are_rings) g.are_rings in
     let area : t.area2 ≡ u.area2 = ap size_of (h.area ∙ ap area2_of strips ∙ sym g.area) in
     λ j. record { rings = rings j; area2 = area j }
 

@@ -31,4 +31,5 @@ pub mod Reach
 pub mod Slitted
 pub mod Tracing
 pub mod Program
+pub mod Permuted
 pub mod Outcome

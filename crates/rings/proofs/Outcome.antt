@@ -3,6 +3,8 @@ use Rattle.std.proofs.Common.{◌≡◌, refl, sym, subst, ap, ◌∙◌, ◌⊎
 use Rattle.std.specs.Prelude.{ℤ, ◌<ℤ◌, ◌≤ℤ◌, ◌&&◌, ◌||◌, int_lt, map, IsTrue, ◌↔◌}
 use Rattle.std.specs.List.{AllZip}
 use Rattle.std.specs.Ordering.{int_eq}
+use Rattle.std.specs.List.Sorted.{IsPermutation}
+use Rattle.std.proofs.lemmas.List.Sorted.{IsPermutation-refl}
 use Rattle.std.proofs.lemmas.Int.{ints, by_lt_z}
 use Rattle.std.proofs.lemmas.Bool.{false≢true}
 use Rattle.std.proofs.lemmas.Bool.Decides.{Decides-int_eq}
@@ -13,20 +15,21 @@ use Rattle.covering.proofs.Counts.{less_true, less_false}
 use Rattle.covering.proofs.Laws.{start_on}
 use Rattle.strips.specs.declared.Strip.{Strip}
 use Rattle.rings.specs.Walks.{Visit, visits, AreContours}
-use Rattle.rings.specs.Loops.{IsHole, AreLoopsOf}
+use Rattle.rings.specs.Loops.{Loop, IsHole, AreLoopsOf}
 use Rattle.rings.specs.Slits.{IsSlit}
 use Rattle.rings.specs.Rings.{holes_of, with_slits, AreRingsOf}
 use Rattle.rings.specs.Boundary.{side_edges, IsCorner, AreBoundary}
 use Rattle.rings.specs.Tracing.{is_less_point, Drawing, drawings_of, is_open_left, some_visit, loop_of, loops_by, Reach, reach_more, reach_of, slit_by, slits_by, rings_by}
 use Rattle.rings.proofs.Lists.{Has, has_left}
 use Rattle.rings.proofs.Order.{point_same}
-use Rattle.rings.proofs.Unique.{and_both, edge_same}
+use Rattle.rings.proofs.Unique.{AreSame, and_both, edge_same}
 use Rattle.rings.proofs.Slits.{has_any, any_has}
 use Rattle.rings.proofs.Checks.{less_point, is_hole, hole_exact, is_open_left as open_checked, some_visit as some_checked}
 use Rattle.rings.proofs.Sides.{AreOrdered}
 use Rattle.rings.proofs.Rings.{AreTidy, tidy_with}
 use Rattle.rings.proofs.Near.{Alternate, boundary_alternate}
 use Rattle.rings.proofs.Program.{drawings_are}
+use Rattle.rings.proofs.Permuted.{permuted_same, tidy_permuted, alternate_permuted, contours_permuted, loops_permuted}
 use Rattle.rings.proofs.Slitted.{HasSlitCopper, AllSlits, slits_of, tidy, slits_alternate}
 
 bool_cases : (b : Bool) → (b ≡ true) ⊎ (b ≡ false)
@@ -47,7 +50,7 @@ hole_same : (w : List Edge) → some_visit (is_open_left w) (visits w) ≡ is_ho
 unfolding is_hole
 hole_same w = some_same (is_open_left w) (open_checked w) (visits w) (open_same w)
 
-loops_corners : (ds : List Drawing) → map (λ l. l.corners) (map loop_of ds) ≡ map (λ d. d.corners) ds
+pub loops_corners : (ds : List Drawing) → map (λ l. l.corners) (map loop_of ds) ≡ map (λ d. d.corners) ds
 unfolding loop_of
 loops_corners [] = refl
 loops_corners (d ∷ ds) = ap (λ cs. d.corners ∷ cs) (loops_corners ds)
@@ -150,52 +153,63 @@ corner_start ss es c o b i =
       | inr k ↦ (let n = boundary_alternate ss es o b r.0 h in (n.0, (n.1).one, (n.1).joins ∙ sym k))
     ]
 
-slit_same : (ss : List Strip) (es : List Edge) (cs : List Point) (s : Edge) → AreOrdered ss → AreBoundary ss es → IsSlit es cs s → HasSlitCopper ss s → slit_by es s.start ≡ s
+slit_same : (ss : List Strip) (es fs : List Edge) (cs : List Point) (s : Edge) → AreOrdered ss → AreBoundary ss es → AreSame es fs → IsSlit es cs s → HasSlitCopper ss s → slit_by fs s.start ≡ s
 unfolding slit_by Has
-slit_same ss es cs s o b t c =
+slit_same ss es fs cs s o b a t c =
     let h = s.start in
     let none : Reach = record { some = false; x = h.x } in
-    let r = reach_is es [] h none es (λ e j. j) (record { found = λ q. absurd (false≢true q); most = λ e j y x. absurd j }) in
+    let r = reach_is fs [] h none fs (λ e j. j) (record { found = λ q. absurd (false≢true q); most = λ e j y x. absurd j }) in
     let k = corner_start ss es s.finish o b c.finish in
     let ky = ap (λ z. z.y) k.2 in
     let kx = ap (λ z. z.x) k.2 in
     let ty = t.level in
     let tl = t.left in
-    let m = r.0 k.0 (inr k.1) (ky ∙ ty) (omega (arith, ints, kx, tl)) in
+    let m = r.0 k.0 (inr (a.there k.0 k.1)) (ky ∙ ty) (omega (arith, ints, kx, tl)) in
     let f = r.1 m.0 in
     let m1 = m.1 in
     let fy = f.2 in let fx = f.3 in let fr = f.4 in
-    let same : (reach_of h none es).x ≡ s.finish.x = by_lt_z {P = (reach_of h none es).x ≡ s.finish.x} s.finish.x (reach_of h none es).x
+    let same : (reach_of h none fs).x ≡ s.finish.x = by_lt_z {P = (reach_of h none fs).x ≡ s.finish.x} s.finish.x (reach_of h none fs).x
     (λ l. absurd (t.first (grid_point f.0.start.x f.0.start.y) (omega (arith, ints, fy)) (omega (arith, ints, l, fr)) (omega (arith, ints, fx))
-    (has_any (λ e. IsOn e (grid_point f.0.start.x f.0.start.y)) es f.0 f.1 (start_on (grid_point f.0.start.x f.0.start.y) f.0 (omega (arith, ints)) (omega (arith, ints))))))
+    (has_any (λ e. IsOn e (grid_point f.0.start.x f.0.start.y)) es f.0 (a.back f.0 f.1) (start_on (grid_point f.0.start.x f.0.start.y) f.0 (omega (arith, ints)) (omega (arith, ints))))))
     (λ l. omega (arith, ints, l, m1, kx)) in
-    edge_same (record { start = h; finish = record { x = (reach_of h none es).x; y = h.y } }) s refl (point_same (record { x = (reach_of h none es).x; y = h.y }) s.finish same (sym ty))
+    edge_same (record { start = h; finish = record { x = (reach_of h none fs).x; y = h.y } }) s refl (point_same (record { x = (reach_of h none fs).x; y = h.y }) s.finish same (sym ty))
 
-slits_same : (ss : List Strip) (es : List Edge) (holes : List (List Point)) (slits : List Edge) → AreOrdered ss → AreBoundary ss es → AllZip (IsSlit es) holes slits → AllSlits ss slits → slits_by es holes ≡ slits
+slits_same : (ss : List Strip) (es fs : List Edge) (holes : List (List Point)) (slits : List Edge) → AreOrdered ss → AreBoundary ss es → AreSame es fs → AllZip (IsSlit es) holes slits → AllSlits ss slits → slits_by fs holes ≡ slits
 unfolding AllSlits Has slits_by
-slits_same ss es [] [] o b z a = refl
-slits_same ss es [] (s ∷ slits) o b z a = absurd z
-slits_same ss es (c ∷ holes) [] o b z a = absurd z
-slits_same ss es (c ∷ holes) (s ∷ slits) o b z a =
-    ap (λ d. slits_by es (d ∷ holes)) (z.0).from
-    ∙ (ap (λ e. e ∷ slits_by es holes) (slit_same ss es c s o b z.0 (a s (inl refl))) ∙ ap (λ ts. s ∷ ts) (slits_same ss es holes slits o b z.1 (λ t h. a t (inr h))))
+slits_same ss es fs [] [] o b n z a = refl
+slits_same ss es fs [] (s ∷ slits) o b n z a = absurd z
+slits_same ss es fs (c ∷ holes) [] o b n z a = absurd z
+slits_same ss es fs (c ∷ holes) (s ∷ slits) o b n z a =
+    ap (λ d. slits_by fs (d ∷ holes)) (z.0).from
+    ∙ (ap (λ e. e ∷ slits_by fs holes) (slit_same ss es fs c s o b n z.0 (a s (inl refl))) ∙ ap (λ ts. s ∷ ts) (slits_same ss es fs holes slits o b n z.1 (λ t h. a t (inr h))))
 
--- ---- rings
-pub loops_right : (ss : List Strip) (es : List Edge) → AreOrdered ss → AreBoundary ss es → AreLoopsOf es (loops_by es)
-loops_right ss es o b = loops_are es (tidy ss es o b) (boundary_alternate ss es o b)
+pub slits_right : (ss : List Strip) (es fs : List Edge) (loops : List Loop) → AreOrdered ss → AreBoundary ss es → IsPermutation es fs → AreLoopsOf es loops → AllZip (IsSlit es) (holes_of loops) (slits_by fs (holes_of loops))
+slits_right ss es fs loops o b p a =
+    let s = slits_of ss es loops o b a in
+    subst (AllZip (IsSlit es) (holes_of loops)) (sym (slits_same ss es fs (holes_of loops) s.slits o b (permuted_same es fs p) s.each s.copper)) s.each
+
+-- ---- loops and rings
+pub loops_right : (ss : List Strip) (es fs : List Edge) → AreOrdered ss → AreBoundary ss es → IsPermutation es fs → AreLoopsOf es (loops_by fs)
+loops_right ss es fs o b p = loops_permuted es fs (loops_by fs) p (loops_are fs (tidy_permuted es fs p (tidy ss es o b)) (alternate_permuted es fs p (boundary_alternate ss es o b)))
+
+pub rings_drawn : (ss : List Strip) (es : List Edge) (loops : List Loop) (slits gs : List Edge) → AreOrdered ss → AreBoundary ss es → AreLoopsOf es loops
+    → AllZip (IsSlit es) (holes_of loops) slits → IsPermutation (with_slits es slits) gs → AreRingsOf es (map (λ d. d.corners) (drawings_of gs))
+rings_drawn ss es loops slits gs o b a z p =
+    let all = with_slits es slits in
+    record {
+      loops = loops;
+      are = a;
+      slits = slits;
+      each = z;
+      walks = map (λ d. d.walk) (drawings_of gs);
+      contours = contours_permuted all gs _ _ p
+          (drawings_are gs (tidy_permuted all gs p (tidy_with es loops slits (tidy ss es o b) a z)) (alternate_permuted all gs p (slits_alternate ss es loops slits o b a z).0));
+    }
 
 pub rings_right : (ss : List Strip) (es : List Edge) → AreOrdered ss → AreBoundary ss es → AreRingsOf es (rings_by es)
 unfolding rings_by
 rings_right ss es o b =
-    let a = loops_right ss es o b in
-    let s = slits_of ss es (loops_by es) o b a in
-    let k = slits_same ss es (holes_of (loops_by es)) s.slits o b s.each s.copper in
-    let n = slits_alternate ss es (loops_by es) s.slits o b a s.each in
-    subst (λ ts. AreRingsOf es (map (λ d. d.corners) (drawings_of (with_slits es ts)))) (sym k) (record {
-      loops = loops_by es;
-      are = a;
-      slits = s.slits;
-      each = s.each;
-      walks = map (λ d. d.walk) (drawings_of (with_slits es s.slits));
-      contours = drawings_are (with_slits es s.slits) (tidy_with es (loops_by es) s.slits (tidy ss es o b) a s.each) n.0;
-    })
+    let p = IsPermutation-refl es in
+    let a = loops_right ss es es o b p in
+    let slits = slits_by es (holes_of (loops_by es)) in
+    rings_drawn ss es (loops_by es) slits (with_slits es slits) o b a (slits_right ss es es (loops_by es) o b p a) (IsPermutation-refl (with_slits es slits))

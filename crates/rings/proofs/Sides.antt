@@ -2,13 +2,12 @@
 use Rattle.std.proofs.Common.{◌≡◌, refl, sym, subst, ap, ◌∙◌, ℕ, ◌⊎◌, inl, inr, arith, List, [], ◌∷◌}
 use Rattle.std.specs.Prelude.{◌-ℤ◌, ◌<ℤ◌, ◌≤ℤ◌}
 use Rattle.std.proofs.lemmas.Int.{ints}
-use Rattle.plane.specs.Plane.{Bounds}
 use Rattle.grid_num.specs.declared.Point.{Point}
 use Rattle.strips.specs.declared.Strip.{Strip}
-use Rattle.strips.specs.Strips.{IsTrapezoid, IsSloped, IsApart, IsBefore, AreStrips}
+use Rattle.strips.specs.Strips.{IsTrapezoid, IsSloped, IsApart, IsBefore}
 use Rattle.rings.specs.Turning.{direction}
 use Rattle.rings.specs.Boundary.{left_edge, right_edge}
-use Rattle.rings.proofs.Lists.{Has, all_at, Rising, rising_of}
+use Rattle.rings.proofs.Lists.{Has, Rising}
 use Rattle.rings.proofs.Order.{point_same}
 use Rattle.rings.proofs.Lines.{line, along, GoesOn, IsGood, direction_is}
 use Rattle.rings.proofs.Parted.{IsAlong, OnHalf}
@@ -18,9 +17,6 @@ use Rattle.rings.proofs.Unique.{edge_same}
 pub record AreOrdered (ss : List Strip) : Type 0 where
   pub shape : (s : Strip) → Has ss s → IsTrapezoid s
   pub order : Rising IsBefore ss
-
-pub ordered_of : (os : List Bounds) (ss : List Strip) → AreStrips os ss → AreOrdered ss
-ordered_of os ss a = record { shape = λ s h. all_at (λ s. IsTrapezoid s) ss s a.shapes h; order = rising_of IsBefore ss a.order }
 
 -- two strips whose rows overlap are between the same two rows, and are one or apart
 pub record AreBeside (s t : Strip) : Type 0 where

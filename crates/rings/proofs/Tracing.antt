@@ -30,11 +30,11 @@ point_meets : (a b : Point) → a ≡ b → is_same_point a b ≡ true
 unfolding is_same_point
 point_meets a b e = ap (λ c. c && int_eq a.y b.y) ((Decides-int_eq a.x b.x).1 (ap (λ q. q.x) e)) ∙ (Decides-int_eq a.y b.y).1 (ap (λ q. q.y) e)
 
-edge_told : (e f : Edge) → is_same_edge e f ≡ true → e ≡ f
+pub edge_told : (e f : Edge) → is_same_edge e f ≡ true → e ≡ f
 unfolding is_same_edge
 edge_told e f h = let s = and_both (is_same_point e.start f.start) (is_same_point e.finish f.finish) h in edge_same e f (point_told e.start f.start s.0) (point_told e.finish f.finish s.1)
 
-edge_meets : (e f : Edge) → e ≡ f → is_same_edge e f ≡ true
+pub edge_meets : (e f : Edge) → e ≡ f → is_same_edge e f ≡ true
 unfolding is_same_edge
 edge_meets e f k = ap (λ c. c && is_same_point e.finish f.finish) (point_meets e.start f.start (ap (λ z. z.start) k)) ∙ point_meets e.finish f.finish (ap (λ z. z.finish) k)
 
@@ -42,7 +42,7 @@ bool_cases : (b : Bool) → (b ≡ true) ⊎ (b ≡ false)
 bool_cases true = inl refl
 bool_cases false = inr refl
 
-one_told : (es : List Edge) (e : Edge) → is_one_of es e ≡ true → Has es e
+pub one_told : (es : List Edge) (e : Edge) → is_one_of es e ≡ true → Has es e
 unfolding is_one_of Has
 one_told [] e h = absurd (false≢true h)
 one_told (f ∷ fs) e h = at (bool_cases (is_same_edge e f)) (one_told fs e)
@@ -51,7 +51,7 @@ one_told (f ∷ fs) e h = at (bool_cases (is_same_edge e f)) (one_told fs e)
     at (inl k) r = inl (sym (edge_told e f k))
     at (inr k) r = inr (r (ap (λ c. c || is_one_of fs e) (sym k) ∙ h))
 
-one_meets : (es : List Edge) (e : Edge) → Has es e → is_one_of es e ≡ true
+pub one_meets : (es : List Edge) (e : Edge) → Has es e → is_one_of es e ≡ true
 unfolding is_one_of Has
 one_meets [] e h = absurd h
 one_meets (f ∷ fs) e (inl k) = ap (λ c. c || is_one_of fs e) (edge_meets e f (sym k))
@@ -213,10 +213,10 @@ has_left_over : (w left : List Edge) (e : Edge) → Has left e → (Has w e → 
 unfolding left_over
 has_left_over w left e h n = has_filtered (λ e. not (is_one_of w e)) left e h (not_meets (is_one_of w e) (λ t. n (one_told w e t)))
 
-filter_yes : (p : Edge → Bool) (x : Edge) (xs : List Edge) → p x ≡ true → filter p (x ∷ xs) ≡ x ∷ filter p xs
+pub filter_yes : (p : Edge → Bool) (x : Edge) (xs : List Edge) → p x ≡ true → filter p (x ∷ xs) ≡ x ∷ filter p xs
 filter_yes p x xs h = rw h refl
 
-filter_no : (p : Edge → Bool) (x : Edge) (xs : List Edge) → p x ≡ false → filter p (x ∷ xs) ≡ filter p xs
+pub filter_no : (p : Edge → Bool) (x : Edge) (xs : List Edge) → p x ≡ false → filter p (x ∷ xs) ≡ filter p xs
 filter_no p x xs h = rw h refl
 
 once_filtered : (p : Edge → Bool) (xs : List Edge) → NoRepeats xs → NoRepeats (filter p xs)

@@ -86,7 +86,7 @@ next_again es fs e f s n = record {
   first = λ g c j. n.first g (of_has es g (s.back g (has_of fs g c))) j;
 }
 
-walk_again : (es fs w : List Edge) → AreSame es fs → IsWalk es w → IsWalk fs w
+pub walk_again : (es fs w : List Edge) → AreSame es fs → IsWalk es w → IsWalk fs w
 walk_again es fs w s h = record { some = h.some; next = λ k d l. next_again es fs _ _ s (h.next k d l) }
 
 -- the walks use each edge once

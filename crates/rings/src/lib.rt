@@ -4,7 +4,7 @@
 #![tactic(auto)]
 
 ghost use Rattle.rings.specs.Examples.{ExamplesLaw};
-ghost use Rattle.rings.specs.Laws.{OneLoopsLaw, OneRingsLaw, LoopsCoverLaw, RingsCoverLaw, SomeLoopsLaw, SomeRingsLaw, SomeSlitsLaw, NextLaw, SlitsNextLaw, UnionCoverLaw, WalksLaw, SlitsWalksLaw, LoopsByLaw, RingsByLaw};
+ghost use Rattle.rings.specs.Laws.{OneLoopsLaw, OneRingsLaw, LoopsCoverLaw, RingsCoverLaw, SomeLoopsLaw, SomeRingsLaw, SomeSlitsLaw, NextLaw, SlitsNextLaw, UncutLaw, UnionCoverLaw, WalksLaw, SlitsWalksLaw, LoopsByLaw, SlitsByLaw, DrawnRingsLaw, RingsByLaw};
 
 /// Just one list of loops is right for a sheet, and just one list of rings.
 pub fn one_law()
@@ -27,18 +27,21 @@ pub fn some_law()
 {}
 
 /// Each boundary edge has just one next edge, and is the next one of no two; with the slits of all holes too, which cut no
-/// edge, since they end at corners. So a walk along next edges closes where it began.
+/// edge, since they end at corners. So a walk along next edges closes where it began. In what order edges are listed doesn't matter.
 pub fn next_law()
     ensures boundary { NextLaw }
     ensures slits { SlitsNextLaw }
+    ensures uncut { UncutLaw }
 {}
 
-/// The plain program gives walks that use each edge once, along the boundary and along the boundary with its slits; and its
-/// loops and rings are the right ones.
+/// The plain program gives walks that use each edge once, along the boundary and along the boundary with its slits, and its
+/// loops, slits and rings are the right ones, in whatever order it is given the edges.
 pub fn program_law()
     ensures boundary { WalksLaw }
     ensures slits { SlitsWalksLaw }
     ensures loops { LoopsByLaw }
+    ensures cuts { SlitsByLaw }
+    ensures drawn { DrawnRingsLaw }
     ensures rings { RingsByLaw }
 {}
 

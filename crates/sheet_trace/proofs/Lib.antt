@@ -1,0 +1,12 @@
+mod Sorted
+mod Found
+mod Folds
+mod Parts
+mod Ranges
+mod Reached
+mod Opens
+mod Rounds
+mod Ranked
+mod Walked
+mod Outlines
+mod Laws

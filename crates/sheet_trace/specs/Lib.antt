@@ -1,0 +1,9 @@
+pub mod Edges
+pub mod Levels
+pub mod Next
+pub mod Visits
+pub mod Turns
+pub mod Order
+pub mod Walked
+pub mod Outlines
+pub mod Laws
