@@ -1,5 +1,5 @@
 -- The pieces that the fills of a board replace lie in order within its text.
-use Rattle.std.proofs.Common.{◌≡◌, ◌∙◌, refl, ap, sym, subst, ℕ, zero, suc, ◌+◌, ◌-◌, ◌<◌, ◌≤◌, ◌⊎◌, inl, inr, arith, Bool, true, false, List, [], ◌∷◌, ◌++◌, map, length, Option, None, Some}
+use Rattle.std.proofs.Common.{◌≡◌, ◌∙◌, refl, ap, sym, subst, ℕ, zero, suc, ◌+◌, ◌-◌, ◌<◌, ◌≤◌, ◌⊎◌, inl, inr, arith, Bool, true, false, List, [], ◌∷◌, ◌++◌, map, length, take, drop, length-append, Option, None, Some}
 use Rattle.std.specs.Prelude.{codes, ◌||◌, cond, filter, filter_map, flat_map, slice_index, if◌then◌else◌}
 use Rattle.std.specs.List.{cons_option}
 use Rattle.std.proofs.lemmas.Bool.{cases_eq}
@@ -11,15 +11,16 @@ use Rattle.sexpr_text.specs.Items.{Item, items_of, is_headed}
 use Rattle.sexpr_text.specs.Trees.{IsRoot}
 use Rattle.board_fields.specs.Lists.{is_list, lists_of}
 use Rattle.board_language.specs.declared.board.Zone as zones
+use Rattle.board_language.specs.declared.board.Rules.{Rules}
 use Rattle.board_language.specs.Board.{Board}
 use Rattle.board_language.specs.Fields.{head_begins}
 use Rattle.board_language.specs.Items.{Context, solid_end, span_of}
 use Rattle.board_language.specs.Things.{Placed, Thing, InFootprint, Zone, Pad, FootprintDrawing, FootprintZone, Other, thing_of, on_board, in_footprint, with_own, items_of_board}
 use Rattle.board_language.specs.Zones.{is_fill, is_read_zone, zone_of, spans_of}
 use Rattle.board_language.specs.Reading.{zone_from, all_of, board_of, context_of}
-use Rattle.output_rules.specs.Pieces.{Piece, AreInOrder}
-use Rattle.output_rules.specs.Output.{Traced, old_fill, zone_pieces, rings_text, pieces_from, pieces_of}
-use Rattle.output_rules.specs.Laws.{PlacedLaw}
+use Rattle.output_rules.specs.Pieces.{Piece, AreInOrder, replaced}
+use Rattle.output_rules.specs.Output.{Traced, old_fill, zone_pieces, rings_text, pieces_from, pieces_of, text_with_rings}
+use Rattle.output_rules.specs.Laws.{PlacedLaw, SomeBytesLaw}
 use Rattle.output_rules.proofs.Solid.{solid}
 use Rattle.output_rules.proofs.Replacing.{order}
 
@@ -190,13 +191,48 @@ board_zones : (c : Context) (root : Item) → all_of zone_from c (items_of_board
 unfolding items_of_board thing_of
 board_zones c root = own_zones c (lists_of root)
 
-placed_in : (c : Context) (root : Item) (b : Board) (traced : List Traced) → IsRoot c.bytes root → AreInOrder 0 (length c.bytes) (pieces_from c.bytes b traced 0 (all_of zone_from c (items_of_board c.bytes root)))
+-- so they lie between the parentheses of the board's list
+placed_in : (c : Context) (root : Item) (b : Board) (traced : List Traced) → IsRoot c.bytes root
+    → AreInOrder (root.from + 1) (root.to - 1) (pieces_from c.bytes b traced 0 (all_of zone_from c (items_of_board c.bytes root)))
 placed_in c root b traced r =
     let i = r.spelt.items in
-    subst (λ zs. AreInOrder 0 (length c.bytes) (pieces_from c.bytes b traced 0 zs)) (sym (board_zones c root))
-    (weaken 0 (root.from + 1) (root.to - 1) (length c.bytes) (pieces_from c.bytes b traced 0 (zones_among c (lists_of root))) (omega arith) (omega (arith, i.1.within))
-    (zones_in_order c b traced 63 (root.from + 1) (root.to - 1) (root.from + 1) 0 root.inner i.2 (omega arith)))
+    subst (λ zs. AreInOrder (root.from + 1) (root.to - 1) (pieces_from c.bytes b traced 0 zs)) (sym (board_zones c root))
+    (zones_in_order c b traced 63 (root.from + 1) (root.to - 1) (root.from + 1) 0 root.inner i.2 (omega arith))
+
+placed_inside : (text : List ℕ) (root : Item) (rules : Rules) (traced : List Traced) → IsRoot text root
+    → AreInOrder (root.from + 1) (root.to - 1) (pieces_of text (board_of text root rules) traced)
+unfolding board_of context_of pieces_of
+placed_inside text root rules traced r = placed_in (context_of text root) root (board_of text root rules) traced r
+
+root_within : (text : List ℕ) (root : Item) → IsRoot text root → root.to - 1 ≤ length text
+root_within text root r = let i = r.spelt.items in omega (arith, i.1.within)
 
 pub placed : PlacedLaw
-unfolding board_of context_of pieces_of
-placed text root rules traced r = placed_in (context_of text root) root (board_of text root rules) traced r
+placed = record {
+  inside = placed_inside;
+  within = λ text root rules traced r. weaken 0 (root.from + 1) (root.to - 1) (length text) (pieces_of text (board_of text root rules) traced) (omega arith) (root_within text root r)
+      (placed_inside text root rules traced r);
+}
+
+-- ---- the first byte stays
+
+some_left : (text : List ℕ) (n : ℕ) → 0 < length text → 1 ≤ n → 0 < length (take n text)
+some_left [] n l m = absurd (omega (arith, l))
+some_left (c ∷ cs) zero l m = absurd (omega (arith, m))
+some_left (c ∷ cs) (suc n) l m = omega arith
+
+some_replaced : (at end : ℕ) (ps : List Piece) (text : List ℕ) → AreInOrder (at + 1) end ps → 0 < length text → 0 < length (replaced 0 ps text)
+unfolding AreInOrder replaced
+some_replaced at end [] text h l = l
+some_replaced at end (p ∷ ps) text h l =
+    let from = h.0 in
+    let front : 0 < length (take (p.from - 0) text) = some_left text (p.from - 0) l (omega (arith, from)) in
+    let whole = length-append (take (p.from - 0) text) (p.put ++ replaced p.to ps (drop (p.to - 0) text)) in
+    omega (arith, front, whole)
+
+some_text : (text : List ℕ) (root : Item) → IsRoot text root → 0 < length text
+some_text text root r = let i = r.spelt.items in omega (arith, i.1.order, i.1.within)
+
+pub some_bytes : SomeBytesLaw
+unfolding text_with_rings
+some_bytes text root rules traced r = some_replaced root.from (root.to - 1) (pieces_of text (board_of text root rules) traced) text (placed_inside text root rules traced r) (some_text text root r)

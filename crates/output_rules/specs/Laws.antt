@@ -1,5 +1,5 @@
 -- The laws of what is written and said.
-use Rattle.std.specs.Prelude.{◌≡◌, ◌↔◌, ℕ, ◌+◌, ◌<◌, List, [], length}
+use Rattle.std.specs.Prelude.{◌≡◌, ◌↔◌, ℕ, ◌+◌, ◌-◌, ◌<◌, List, [], length}
 use Rattle.classes.specs.Classes.{IsOneOf}
 use Rattle.sexpr_text.specs.Items.{Item}
 use Rattle.sexpr_text.specs.Trees.{IsRoot}
@@ -38,9 +38,17 @@ pub record NetsLaw : Type 0 where
 abbrev pub OneReportLaw : Type 0
 OneReportLaw = (b : Board) (fills : List Made) (traced : List Traced) (r s : Report) → IsReport b fills traced r → IsReport b fills traced s → r ≡ s
 
--- The pieces that the fills of an accepted board replace lie in order within its text.
-abbrev pub PlacedLaw : Type 0
-PlacedLaw = (text : List ℕ) (root : Item) (rules : Rules) (traced : List Traced) → IsRoot text root → AreInOrder 0 (length text) (pieces_of text (board_of text root rules) traced)
+-- The pieces that the fills of a board replace lie in order within its list, behind the opening parenthesis and before the
+-- closing one, and so within its text.
+pub record PlacedLaw : Type 0 where
+  pub inside : (text : List ℕ) (root : Item) (rules : Rules) (traced : List Traced) → IsRoot text root
+      → AreInOrder (root.from + 1) (root.to - 1) (pieces_of text (board_of text root rules) traced)
+  pub within : (text : List ℕ) (root : Item) (rules : Rules) (traced : List Traced) → IsRoot text root
+      → AreInOrder 0 (length text) (pieces_of text (board_of text root rules) traced)
+
+-- So what is written of a board isn't empty.
+abbrev pub SomeBytesLaw : Type 0
+SomeBytesLaw = (text : List ℕ) (root : Item) (rules : Rules) (traced : List Traced) → IsRoot text root → 0 < length (text_with_rings text (board_of text root rules) traced)
 
 -- Where there are no rings, what is written is the text without its old fills.
 abbrev pub BareLaw : Type 0

@@ -3,7 +3,7 @@
 //! Coordinates are nanometres, areas square nanometres, places bytes from the front of the text.
 #![tactic(auto)]
 
-ghost use Rattle.output_rules.specs.Laws.{ReplacedLaw, PlacedLaw, BareLaw, NetsLaw, OneReportLaw};
+ghost use Rattle.output_rules.specs.Laws.{ReplacedLaw, PlacedLaw, SomeBytesLaw, BareLaw, NetsLaw, OneReportLaw};
 ghost use Rattle.output_rules.specs.Rows.{RowsLaw};
 
 mod add;
@@ -28,9 +28,11 @@ pub fn replaced_law()
     ensures { ReplacedLaw }
 {}
 
-/// The pieces that the fills of an accepted board replace lie in order within its text.
+/// The pieces that the fills of a board replace lie in order within its list, and so within its text; so what is written of
+/// it isn't empty.
 pub fn placed_law()
-    ensures { PlacedLaw }
+    ensures placed { PlacedLaw }
+    ensures some { SomeBytesLaw }
 {}
 
 /// Where there are no rings, what is written is the text without its old fills.

@@ -1,5 +1,5 @@
-pub mod Joined
-pub mod OneZone
+pub mod OneTask
+pub mod Filling
 pub mod Owes
 pub mod OneDue
 pub mod EndsOf

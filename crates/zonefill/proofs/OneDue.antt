@@ -1,5 +1,5 @@
 -- At most one thing is due, and so the answer of a quiet run is to it.
-use Rattle.std.proofs.Common.{◌≡◌, inl, inr, ℕ, arith, sym, ◌∙◌, ap, subst, List}
+use Rattle.std.proofs.Common.{◌≡◌, inl, inr, ℕ, arith, sym, ◌∙◌, ap, subst, map, List}
 use Rattle.desk.specs.Seen.{Seen, content}
 use Rattle.desk.specs.declared.Counts.{Counts}
 use Rattle.sexpr_text.specs.declared.NodeKind.{NodeKind}
@@ -13,17 +13,17 @@ use Rattle.sexpr_text.specs.Trees.{IsRoot}
 use Rattle.sexpr_text.specs.Faults.{IsFault}
 use Rattle.sexpr_text.specs.declared.error.TextFault.{TextFault}
 use Rattle.board_language.specs.declared.offence.OffenceKind.{OffenceKind}
-use Rattle.board_language.specs.Reading.{IsAccepted, IsOffence}
+use Rattle.board_language.specs.Board.{Board}
+use Rattle.board_language.specs.Reading.{IsOffence}
 use Rattle.board_model.specs.declared.error.Offence.{Offence}
 use Rattle.board_model.proofs.OneOffence.{one_offence, no_offence}
-use Rattle.first_board.proofs.Unique.{same_board}
-use Rattle.zone_fill.specs.Rings.{AreRings}
-use Rattle.zone_fill.proofs.OneList.{one_list}
+use Rattle.bare_fill.proofs.Cover.{one_rings}
 use Rattle.zonefill.specs.declared.ended.Ended.{Ended}
 use Rattle.zonefill.specs.declared.ended.Ended.TheVariants.{Done, Usage, TooLong, BadText, Refused, Unbuilt, Unreadable, Unwritten, Memory}
 use Rattle.zonefill.specs.Words.{Wanted, wanted}
 use Rattle.zonefill.specs.Words.Wanted.{Wrong, Fill}
-use Rattle.zonefill.specs.Output.{IsFilled, zone_of, with_rings}
+use Rattle.output_rules.specs.Output.{text_with_rings}
+use Rattle.zonefill.specs.Output.{IsFilled, the_board, outlined}
 use Rattle.zonefill.specs.Due.{Due, IsDue, OwesWords, OwesFile, OwesText, OwesTree, OwesBoard, OneDueLaw}
 use Rattle.zonefill.specs.Due.Due.{Refuse, Write}
 use Rattle.zonefill.specs.Leaves.{Leaves, IsCaused, IsQuiet, IsAnswerTo}
@@ -64,16 +64,14 @@ one_refused text root offence other f o =
     let same = one_offence text root offence.at offence.line other.at other.line offence.kind other.kind f o in
     same_offence offence other same.0 same.1 same.2
 
-one_filled : (text : List ℕ) (root : Item) (filled other : List ℕ) → IsFilled text root filled → IsFilled text root other → filled ≡ other
-one_filled text root filled other f o =
-    let b : f.board ≡ o.board = same_board text root f.board o.board f.is_board o.is_board in
-    let r : f.rings ≡ o.rings = one_list (zone_of o.board) f.rings o.rings (subst (λ b. AreRings (zone_of b) f.rings) b f.are_rings) o.are_rings in
-    f.written ∙ ap (λ b. with_rings text b f.rings) b ∙ ap (λ rs. with_rings text o.board rs) r ∙ sym o.written
+one_filled : (text : List ℕ) (b : Board) (filled other : List ℕ) → IsFilled text b filled → IsFilled text b other → filled ≡ other
+one_filled text b filled other f o =
+    f.written ∙ ap (λ rings. text_with_rings text b (map outlined rings)) (one_rings b f.rings o.rings f.are_rings o.are_rings) ∙ sym o.written
 
 one_of_board : (text : List ℕ) (root : Item) (output : List ℕ) (due other : Due) → OwesBoard text root output due → OwesBoard text root output other → due ≡ other
-one_of_board text root output due other (inl f) (inl o) = f.2 ∙ ap (Write output) (one_filled text root f.0 o.0 f.1 o.1) ∙ sym o.2
-one_of_board text root output due other (inl f) (inr o) = absurd (o.0 f.1.board f.1.is_board)
-one_of_board text root output due other (inr f) (inl o) = absurd (f.0 o.1.board o.1.is_board)
+one_of_board text root output due other (inl f) (inl o) = f.2 ∙ ap (Write output) (one_filled text (the_board text root) f.0 o.0 f.1 o.1) ∙ sym o.2
+one_of_board text root output due other (inl f) (inr o) = absurd (o.0 f.1.is_built)
+one_of_board text root output due other (inr f) (inl o) = absurd (f.0 o.1.is_built)
 one_of_board text root output due other (inr f) (inr o) = f.1 ∙ sym o.1
 
 one_of_tree : (text : List ℕ) (root : Item) (output : List ℕ) (due other : Due) → OwesTree text root output due → OwesTree text root output other → due ≡ other

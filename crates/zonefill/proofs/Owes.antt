@@ -1,7 +1,6 @@
 -- What the parts of a run find is what is due.
-use Rattle.std.proofs.Common.{◌≡◌, inl, inr, ℕ, ◌+◌, ◌<◌, ◌≤◌, arith, refl, sym, ◌∙◌, ap, subst, List, ◌++◌, length, take, drop, length-take, length-drop, length-append, Option, None, Some}
+use Rattle.std.proofs.Common.{◌≡◌, inl, inr, ℕ, ◌+◌, ◌<◌, ◌≤◌, arith, refl, sym, ◌∙◌, subst, List, map, length, take, Option, None, Some}
 use Rattle.std.specs.Option.{IsSome}
-use Rattle.std.specs.List.{flat_map}
 use Rattle.desk.specs.Seen.{Seen, content, with_file}
 use Rattle.desk.specs.Room.{cost_of, HasRoom}
 use Rattle.desk.proofs.Rooms.{cost_within}
@@ -18,7 +17,8 @@ use Rattle.whole_files.specs.declared.ReadStop.TheVariants as stop
 use Rattle.zonefill.specs.Words.{wanted}
 use Rattle.zonefill.specs.Words.Wanted.{Wrong, Fill}
 use Rattle.whole_files.specs.Files.{IsCut}
-use Rattle.zonefill.specs.Output.{IsFilled, ring_text}
+use Rattle.output_rules.proofs.Placing.{some_bytes}
+use Rattle.zonefill.specs.Output.{IsFilled, default_rules, the_board, outlined}
 use Rattle.zonefill.specs.Filled.{IsOwed}
 use Rattle.zonefill.specs.Answers.{answer_of, answer_of_stop}
 use Rattle.zonefill.specs.Due.{Due, IsDue, OwesWords, OwesFile, OwesText}
@@ -60,7 +60,7 @@ leaves_refused words input output text s refusal.Unbuilt e same short owed =
 
 -- a text that is filled
 pub owes_filled : (words : List (List ℕ)) (input output text filled : List ℕ) (s : Seen) → wanted words ≡ Fill input output → text ≡ content input s → length text ≤ 67108864
-    → (root : Item) × IsRoot text root × IsAccepted text root × IsFilled text root filled → IsDue words s (Write output filled)
+    → (root : Item) × IsRoot text root × IsAccepted text root × IsFilled text (the_board text root) filled → IsDue words s (Write output filled)
 owes_filled words input output text filled s e same short f =
     owes_text words input output text s (Write output filled) e same short (inr (f.0, f.1, inr (f.2, inl (filled, f.3, refl))))
 
@@ -81,17 +81,8 @@ room_to_write words (Some s) (Some r) name bytes law h due =
     omega arith
 
 -- a filled text is never empty
-pub some_bytes : (text filled : List ℕ) (root : Item) → IsRoot text root → IsFilled text root filled → 0 < length filled
-some_bytes text filled root r f =
-    let order = r.spelt.items.1.order in
-    let within = r.spelt.items.1.within in
-    let n : ℕ = f.board.tail in
-    let parts = length-take n text in
-    let rest = length-drop n text in
-    let middle : List ℕ = flat_map (ring_text f.board.layer) f.rings in
-    let whole : length filled ≡ length (take n text) + (length middle + length (drop n text)) =
-    ap length f.written ∙ length-append (take n text) (middle ++ drop n text) ∙ ap (λ k. length (take n text) + k) (length-append middle (drop n text)) in
-    omega arith
+pub some_filled : (text filled : List ℕ) (root : Item) → IsRoot text root → IsFilled text (the_board text root) filled → 0 < length filled
+some_filled text filled root r f = subst (λ b. 0 < length b) (sym f.written) (some_bytes text root default_rules (map outlined f.rings) r)
 
 -- a file that was cut
 pub cut_short : (name bytes : List ℕ) (given : ℕ) (s : Seen) (new : Option Seen) → 0 < length bytes → IsCut name bytes given s new
@@ -101,7 +92,7 @@ cut_short name bytes given s new some (inr part) = (with_file name (take given b
 
 -- the bytes that are written are due
 pub due_bytes : (words : List (List ℕ)) (input output read text written bytes : List ℕ) (s : Seen) → wanted words ≡ Fill input output → text ≡ read → read ≡ content input s → length read ≤ 67108864
-    → written ≡ bytes → (root : Item) × IsRoot text root × IsAccepted text root × IsFilled text root bytes → IsDue words s (Write output written)
+    → written ≡ bytes → (root : Item) × IsRoot text root × IsAccepted text root × IsFilled text (the_board text root) bytes → IsDue words s (Write output written)
 due_bytes words input output read text written bytes s e t same short w f =
     subst (λ b. IsDue words s (Write output b)) (sym w)
     (owes_filled words input output text bytes s e (t ∙ same) (subst (λ x. length x ≤ 67108864) (sym t) short) f)

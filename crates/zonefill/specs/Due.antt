@@ -7,25 +7,24 @@ use Rattle.sexpr_text.specs.Faults.{IsFault}
 use Rattle.sexpr_text.specs.declared.error.TextFault.{TextFault}
 use Rattle.board_language.specs.Reading.{IsAccepted, IsOffence}
 use Rattle.board_model.specs.declared.error.Offence.{Offence}
-use Rattle.first_board.specs.Board as Board
-use Rattle.first_board.specs.Form.{IsFirstForm}
 use Rattle.zonefill.specs.declared.ended.Ended.{Ended}
 use Rattle.zonefill.specs.declared.ended.Ended.TheVariants.{Usage, TooLong, BadText, Refused, Unbuilt}
 use Rattle.zonefill.specs.declared.ended.Role.TheVariants.{In}
 use Rattle.zonefill.specs.Words.{Wanted, wanted}
 use Rattle.zonefill.specs.Words.Wanted.{Wrong, Fill}
-use Rattle.zonefill.specs.Output.{IsFilled}
+use Rattle.bare_fill.specs.Bare.{IsBuilt}
+use Rattle.zonefill.specs.Output.{IsFilled, the_board}
 
 -- What is due: a refusal by this answer, or a file of these bytes.
 pub data Due : Type 0 where
   Refuse : Ended → Due
   Write : (name bytes : List ℕ) → Due
 
--- what the text of an accepted board owes: its filled board, or that it is of no form that is filled yet
+-- what the text of an accepted board owes: its filled board, or that it is none of those that are filled today
 abbrev pub OwesBoard : List ℕ → Item → List ℕ → Due → Type 0
 OwesBoard text root output due =
-    ((filled : List ℕ) × IsFilled text root filled × (due ≡ Write output filled))
-    ⊎ (((board : Board.Shown) → IsFirstForm text root board → ⊥) × (due ≡ Refuse Unbuilt))
+    ((filled : List ℕ) × IsFilled text (the_board text root) filled × (due ≡ Write output filled))
+    ⊎ ((IsBuilt (the_board text root) → ⊥) × (due ≡ Refuse Unbuilt))
 
 -- what the text of a tree owes: the first offence of its board, or what the accepted board owes
 abbrev pub OwesTree : List ℕ → Item → List ℕ → Due → Type 0

@@ -8,10 +8,9 @@ use Rattle.sexpr_text.specs.declared.error.TextError.TheVariants as text_error
 use Rattle.board_language.specs.Reading.{IsAccepted, IsOffence}
 use Rattle.board_model.specs.declared.error.BoardError.{BoardError}
 use Rattle.board_model.specs.declared.error.BoardError.TheVariants as board_error
-use Rattle.first_board.specs.Board as Board
-use Rattle.first_board.specs.Form.{IsFirstForm}
-use Rattle.zone_fill.specs.declared.Rect.{Rect}
+use Rattle.bare_fill.specs.Bare.{IsBuilt}
 use Rattle.zonefill.specs.declared.filled.Refusal.{Refusal}
+use Rattle.zonefill.specs.Output.{the_board}
 use Rattle.zonefill.specs.declared.filled.Refusal.TheVariants.{Memory, BadText, Refused, Unbuilt}
 
 -- the refusal that a text's error makes
@@ -24,17 +23,10 @@ abbrev pub IsOfBoard : BoardError → Refusal → Type 0
 IsOfBoard board_error.Memory refusal = refusal ≡ Memory
 IsOfBoard (board_error.Bad offence) refusal = refusal ≡ Refused offence
 
--- a text is refused by its fault, by the first offence of its board, or where its accepted board is of no form that is
--- filled yet; want of memory aside
+-- a text is refused by its fault, by the first offence of its board, or where its accepted board is none of those
+-- that are filled today; want of memory aside
 abbrev pub IsOwed : List ℕ → Refusal → Type 0
 IsOwed text Memory = Unit {0}
 IsOwed text (BadText fault) = IsFault text fault.at fault.kind
 IsOwed text (Refused offence) = (root : Item) × IsRoot text root × IsOffence text root offence.at offence.line offence.kind
-IsOwed text Unbuilt = (root : Item) × IsRoot text root × IsAccepted text root × ((board : Board.Shown) → IsFirstForm text root board → ⊥)
-
--- the rectangle has the sides of the board's zone
-pub record IsOutlineOf (board : Board.Shown) (outline : Rect) : Type 0 where
-  pub left : outline.left ≡ board.left
-  pub right : outline.right ≡ board.right
-  pub top : outline.top ≡ board.top
-  pub bottom : outline.bottom ≡ board.bottom
+IsOwed text Unbuilt = (root : Item) × IsRoot text root × IsAccepted text root × (IsBuilt (the_board text root) → ⊥)

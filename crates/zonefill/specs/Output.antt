@@ -1,46 +1,40 @@
--- The written board: the text with the rings of its zone put in.
-use Rattle.std.specs.Prelude.{◌≡◌, ◌↔◌, ℕ, ◌==◌, ◌||◌, List, [], ◌∷◌, ◌++◌, take, drop, if◌then◌else◌}
-use Rattle.std.specs.List.{flat_map}
-use lib.Chars.{codes}
+-- The written board: its text with the rings of its fills put in, and the old fills taken out.
+use Rattle.std.specs.Prelude.{◌≡◌, ◌↔◌, ℕ, ◌<◌, List, [], map, length, get_or, Option, None, Some}
 use Rattle.grid_num.specs.declared.Point.{Point}
-use Rattle.grid_num.specs.Written.{mm_of}
 use Rattle.plane.specs.Plane.{PlanePoint}
 use Rattle.covering.specs.Covering.{CoversSome}
-use Rattle.covering.specs.Corners.{box_corners}
 use Rattle.sexpr_text.specs.Items.{Item}
-use Rattle.first_board.specs.Board as Board
-use Rattle.first_board.specs.Form.{IsFirstForm}
-use Rattle.zone_fill.specs.Rules.{Zone, IsInFill}
-use Rattle.zone_fill.specs.Rings.{AreRings, in_units}
+use Rattle.board_language.specs.declared.board.Rules.{Rules}
+use Rattle.board_language.specs.Board.{Board}
+use Rattle.board_language.specs.Reading.{board_of}
+use Rattle.fill_rules.specs.Tasks.{ranked}
+use Rattle.fill_rules.specs.Fill.{fill_of}
+use Rattle.zone_fill.specs.Rings.{in_units}
+use Rattle.output_rules.specs.Output.{Traced, text_with_rings}
+use Rattle.bare_fill.specs.Bare.{IsBuilt, AreRingsOfBoard}
 
--- a name between quotes, with a backslash before each quote and each backslash
-abbrev pub quoted : List ℕ → List ℕ
-quoted [] = []
-quoted (c ∷ cs) = if c == 34 || c == 92 then 92 ∷ c ∷ quoted cs else c ∷ quoted cs
+-- the clearances of every board, in nanometres: 0.2 mm everywhere, and 0.5 mm to its edge
+abbrev pub default_rules : Rules
+default_rules = record { floor = 200000; edge = 500000 }
 
--- a corner in millimetres, on a line of its own
-abbrev pub corner_text : Point → List ℕ
-corner_text corner = codes "\n        (xy " ++ (mm_of corner.x ++ (codes " " ++ (mm_of corner.y ++ codes ")")))
+-- the board that a text's tree spells
+abbrev pub the_board : List ℕ → Item → Board
+the_board text root = board_of text root default_rules
 
--- a ring on a layer, from a line feed on
-abbrev pub ring_text : List ℕ → List Point → List ℕ
-ring_text layer corners =
-    codes "\n    (filled_polygon\n      (layer \"" ++ (quoted layer ++ (codes "\")\n      (pts" ++ (flat_map corner_text corners ++ codes "\n      )\n    )")))
+-- rings as outlines; what is written doesn't hang on their area
+abbrev pub outlined : List (List Point) → Traced
+outlined rings = record { rings = rings; area2 = 0 }
 
--- the text with these rings directly behind the last byte before the zone's closing parenthesis that isn't white space
-abbrev pub with_rings : List ℕ → Board.Shown → List (List Point) → List ℕ
-with_rings text board rings = take board.tail text ++ (flat_map (ring_text board.layer) rings ++ drop board.tail text)
+-- The board of a text is filled: for each of its tasks, in rank order, the rings are those of the task's fill, they cover
+-- exactly the points of the fill, at every scale, and they stand in the text.
+pub record IsFilled (text : List ℕ) (b : Board) (filled : List ℕ) : Type 0 where
+  pub is_built : IsBuilt b
+  pub rings : List (List (List Point))
+  pub are_rings : AreRingsOfBoard b rings
+  pub cover : (i : ℕ) (p : PlanePoint) → i < length (ranked b) → CoversSome (get_or rings i []) p ↔ fill_of b i (in_units p)
+  pub written : filled ≡ text_with_rings text b (map outlined rings)
 
--- the zone of the board
-abbrev pub zone_of : Board.Shown → Zone
-zone_of board = record { outline = box_corners board.left board.right board.top board.bottom; thickness = board.thickness }
-
--- The text's board is filled: the rings are those of its zone's fill, they cover exactly the points of the fill, at every
--- scale, and they stand in the text.
-pub record IsFilled (text : List ℕ) (root : Item) (filled : List ℕ) : Type 0 where
-  pub board : Board.Shown
-  pub is_board : IsFirstForm text root board
-  pub rings : List (List Point)
-  pub are_rings : AreRings (zone_of board) rings
-  pub cover : (p : PlanePoint) → CoversSome rings p ↔ IsInFill (zone_of board) (in_units p)
-  pub written : filled ≡ with_rings text board rings
+-- what is made of an accepted board: its filled text, or nothing where it is none of those that are filled today
+abbrev pub IsMade : List ℕ → Board → Option (List ℕ) → Type 0
+IsMade text b None = IsBuilt b → ⊥
+IsMade text b (Some filled) = IsFilled text b filled

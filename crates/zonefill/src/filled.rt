@@ -1,20 +1,28 @@
 // From the bytes of a board to those of the filled board, or to the refusal that is due.
-ghost use Rattle.std.specs.Prelude.{◌≡◌, IfOk, IfErr, IfSome, IfNone, IsErrOf};
+ghost use Rattle.std.specs.Prelude.{◌≡◌, ◌∷◌, [], List, length, map, IfOk, IfErr};
+ghost use Rattle.std.specs.List.{All, flat_map};
+ghost use Rattle.std.specs.Option.{option_map};
 ghost use Rattle.sexpr_text.specs.Items.{Item};
 ghost use Rattle.sexpr_text.specs.Trees.{IsRoot};
 ghost use Rattle.board_language.specs.Reading.{IsAccepted};
-ghost use Rattle.first_board.specs.Board.{shown};
-ghost use Rattle.zonefill.specs.Filled.{IsOwed, IsOutlineOf};
-ghost use Rattle.zonefill.specs.Output.{IsFilled};
+ghost use Rattle.output_rules.specs.Pieces.{AreInOrder};
+ghost use Rattle.output_rules.specs.Pieces as text_pieces;
+ghost use Rattle.output_rules.specs.Output.{Traced, pieces_of, text_with_rings};
+ghost use Rattle.output_rules.specs.Output as output;
+ghost use Rattle.output_rules.specs.Rings.{ring_text};
+ghost use Rattle.output_rules.specs.Shown.{corners_shown, IsRingInRange};
+ghost use Rattle.bare_fill.specs.Bare.{HasReadZones};
+ghost use Rattle.bare_fill.specs.Answers.{IsFilledTask};
+ghost use Rattle.zonefill.specs.Filled.{IsOwed};
+ghost use Rattle.zonefill.specs.Output.{the_board, outlined, IsFilled, IsMade};
 
-use crate::board_text::text_with_rings;
-use board_language::Rules;
+use bare_fill::{Bare, bare_rings};
+use board_language::{Rules, Zone};
 use board_model::{Board, BoardError, Offence};
-use first_board::FirstBoard;
 use grid_num::Memory;
+use output_rules::{Ring, replaced, rings_text, zone_pieces};
 use sexpr_text::{TextError, TextFault};
 use std::alloc::Global;
-use zone_fill::{Rect, fill_rectangle};
 
 /// Why a text isn't filled.
 #[derive(Clone, Copy, Debug, PartialEq, Eq)]
@@ -68,29 +76,62 @@ const RULES: Rules = Rules {
     edge: 500_000,
 };
 
-/// The sides of the board's zone.
-fn outline_of(board: &FirstBoard) -> Rect
-    ensures { IsOutlineOf (shown board.now) result }
+/// The text with the rings of one zone on one layer in it, and without the zone's old fills.
+fn with_rings(
+    alloc: Global,
+    text: &[u8],
+    zone: &Zone,
+    layer: &[u8],
+    rings: &[Ring],
+) -> Result<Vec<u8>, Memory>
+    requires range { All IsRingInRange rings.now }
+    requires order { AreInOrder 0 (length text.now) (output.zone_pieces text.now zone.now.spans (flat_map (ring_text layer.now) (map corners_shown rings.now))) }
+    ensures { IfOk result (λ v. v.items ≡ text_pieces.replaced 0 (output.zone_pieces text.now zone.now.spans (flat_map (ring_text layer.now) (map corners_shown rings.now))) text.now) }
 {
-    Rect {
-        left: board.left,
-        right: board.right,
-        top: board.top,
-        bottom: board.bottom,
+    let put = rings_text(alloc, layer, rings)?;
+    let pieces = zone_pieces(alloc, text, &zone.spans, put)?;
+    replaced(alloc, text, &pieces)
+}
+
+/// The text of a board of one task, with these rings of its fill.
+fn with_fill(
+    alloc: Global,
+    text: &[u8],
+    board: &Board,
+    layer: u8,
+    rings: &[Ring],
+) -> Result<Vec<u8>, Memory>
+    requires task { IsFilledTask board.now.board layer rings.now }
+    requires order { AreInOrder 0 (length text.now) (pieces_of text.now board.now.board (outlined (map corners_shown rings.now) ∷ [])) }
+    ensures { IfOk result (λ v. v.items ≡ text_with_rings text.now board.now.board (outlined (map corners_shown rings.now) ∷ [])) }
+{
+    let zone = &board.zones()[0];
+    let name = board.layers()[usize::from(layer)].bytes();
+    with_rings(alloc, text, zone, name, rings)
+}
+
+/// The text of an accepted board with its fill; none where it isn't one of those that are filled today.
+fn filled_board(alloc: Global, text: &[u8], board: &Board) -> Result<Option<Vec<u8>>, Memory>
+    requires zones { HasReadZones board.now.board }
+    requires order { (traced : List Traced) → AreInOrder 0 (length text.now) (pieces_of text.now board.now.board traced) }
+    ensures { IfOk result (λ made. IsMade text.now board.now.board (option_map (λ v. v.items) made)) }
+{
+    match bare_rings(alloc, board)? {
+        Bare::NotBuilt => Ok(None),
+        Bare::NoTask => Ok(Some(replaced(alloc, text, &[])?)),
+        Bare::Task { layer, rings } => Ok(Some(with_fill(alloc, text, board, layer, &rings)?)),
     }
 }
 
 /// The text of the filled board.
 pub fn filled(alloc: Global, text: &[u8]) -> Result<Vec<u8>, Refusal>
-    ensures filled { IfOk result (λ v. (root : Item) × IsRoot text.now root × IsAccepted text.now root × IsFilled text.now root v.items) }
+    ensures filled { IfOk result (λ v. (root : Item) × IsRoot text.now root × IsAccepted text.now root × IsFilled text.now (the_board text.now root) v.items) }
     ensures refused { IfErr result (IsOwed text.now) }
 {
     let tree = sexpr_text::read(alloc, text)?;
-    Board::read(alloc, text, &tree, RULES)?;
-    let Some(board) = first_board::read(alloc, text, &tree)? else {
-        return Err(Refusal::Unbuilt);
-    };
-    let outline = outline_of(&board);
-    let rings = fill_rectangle(alloc, &outline, board.thickness)?;
-    Ok(text_with_rings(alloc, text, &board, &rings)?)
+    let board = Board::read(alloc, text, &tree, RULES)?;
+    match filled_board(alloc, text, &board)? {
+        Some(bytes) => Ok(bytes),
+        None => Err(Refusal::Unbuilt),
+    }
 }

@@ -3,7 +3,6 @@
 //! Places and lengths of texts are in bytes, lengths on a board in nanometres.
 #![tactic(auto)]
 
-mod board_text;
 mod complaint;
 mod ended;
 mod filled;

@@ -144,7 +144,7 @@ fn fills_rectangles(rt: HostRuntime) -> Result<(), Fail> {
 }
 
 // a text, its answer and its complaint
-const REFUSED: [(&[u8], Ended, &[u8]); 6] = [
+const REFUSED: [(&[u8], Ended, &[u8]); 5] = [
     (
         b"",
         Ended::BadText(TextFault {
@@ -186,11 +186,6 @@ const REFUSED: [(&[u8], Ended, &[u8]); 6] = [
             kind: OffenceKind::Number(NumFault::NotANumber),
         }),
         b"zonefill: line 2: Number\n",
-    ),
-    (
-        b"(kicad_pcb (version 20221018) (layers))",
-        Ended::Unbuilt,
-        b"zonefill: not built yet\n",
     ),
 ];
 
@@ -343,19 +338,106 @@ fn refuses_boards(rt: HostRuntime) -> Result<(), Fail> {
     Ok(())
 }
 
-/// A track of a declared net: nothing offends, but such a board isn't filled yet.
-const TRACK: &str =
-    "\n  (segment (start 1 1) (end 9 1) (width 0.25) (layer \"F.Cu\") (net 2) (tstamp s1))";
+/// What may stand behind the zone of an accepted board, so that it isn't filled yet: a track, a via, a pad, a rule area, a
+/// piece of the board's edge, and another zone.
+const BEYOND: [&str; 6] = [
+    "\n  (segment (start 1 1) (end 9 1) (width 0.25) (layer \"F.Cu\") (net 2) (tstamp s1))",
+    "\n  (via (at 5 5) (size 0.8) (drill 0.4) (layers \"F.Cu\" \"B.Cu\") (net 2) (tstamp v1))",
+    "\n  (footprint \"P\" (layer \"F.Cu\") (at 5 5) (pad \"1\" smd rect (at 0 0) (size 1 1) (layers \"F.Cu\") (net 2)))",
+    "\n  (zone (net 0) (layer \"F.Cu\") (keepout (copperpour not_allowed)) (polygon (pts (xy 1 1) (xy 2 1) (xy 2 2))))",
+    "\n  (gr_line (start 0 0) (end 10 0) (layer \"Edge.Cuts\"))",
+    "\n  (zone (net 2) (layer \"F.Cu\") (min_thickness 0.25) (fill yes) (polygon (pts (xy 1 1) (xy 2 1) (xy 2 2))))",
+];
 
 #[test]
-fn leaves_accepted_boards_beyond_the_form(rt: HostRuntime) -> Result<(), Fail> {
+fn leaves_boards_that_are_not_built(rt: HostRuntime) -> Result<(), Fail> {
     let alloc = rt.alloc();
     let front = board(alloc, "0.25", SQUARE)?;
-    let text = format!(in alloc; "{front}\n  ){TRACK}\n)\n")?;
-    let mut desk = desk_with(alloc, &[], text.as_bytes())?;
-    assert!(rt; run_words(alloc, &mut desk, &["fill", "a", "b"])? == Ended::Unbuilt);
-    assert!(rt; desk.complained() == b"zonefill: not built yet\n".as_slice());
-    assert!(rt; desk.contents("b").is_none());
+    for behind in BEYOND {
+        let text = format!(in alloc; "{front}\n  ){behind}\n)\n")?;
+        let mut desk = desk_with(alloc, &[], text.as_bytes())?;
+        let ended = run_words(alloc, &mut desk, &["fill", "a", "b"])?;
+        assert!(rt; ended == Ended::Unbuilt, "{behind}");
+        assert!(rt; status(&ended) == 1);
+        assert!(rt; desk.complained() == b"zonefill: not built yet\n".as_slice());
+        assert!(rt; desk.contents("b").is_none());
+    }
+    Ok(())
+}
+
+/// Zones that aren't those of one filled rectangle: on two layers, with islands taken out, and of another form.
+const OTHER_ZONES: [&str; 3] = [
+    "(layers \"F&B.Cu\") (fill yes (island_removal_mode 1)) (polygon (pts (xy 0 0) (xy 10 0) (xy 10 10) (xy 0 10)))",
+    "(layer \"F.Cu\") (fill yes) (polygon (pts (xy 0 0) (xy 10 0) (xy 10 10) (xy 0 10)))",
+    "(layer \"F.Cu\") (fill yes (island_removal_mode 1)) (polygon (pts (xy 0 0) (xy 10 0) (xy 0 10)))",
+];
+
+#[test]
+fn leaves_zones_that_are_not_built(rt: HostRuntime) -> Result<(), Fail> {
+    let alloc = rt.alloc();
+    for zone in OTHER_ZONES {
+        let text = format!(in alloc;
+            "(kicad_pcb (version 20221018) (layers (0 F.Cu) (31 B.Cu)) (net 1)\n  (zone (net 1) (min_thickness 0.25) {zone})\n)\n"
+        )?;
+        let mut desk = desk_with(alloc, &[], text.as_bytes())?;
+        assert!(rt;
+            run_words(alloc, &mut desk, &["fill", "a", "b"])? == Ended::Unbuilt,
+            "{zone}"
+        );
+        assert!(rt; desk.contents("b").is_none());
+    }
+    Ok(())
+}
+
+/// Boards without tasks: with nothing on them, with a track and a via, and with a zone that is on no copper layer.
+const WITHOUT_TASKS: [&[u8]; 3] = [
+    b"(kicad_pcb (version 20221018) (layers))",
+    b"\n(kicad_pcb (version 20211014) (layers (0 F.Cu))(net 1)\n (segment (start 0 0) (end 1 0) (width 1) (layer F.Cu) (net 1)) (via (at 5 5) (size 1) (layers F.Cu F.Cu)))\n\n",
+    b"(kicad_pcb (version 20221018) (layers (0 F.Cu) (37 F.SilkS user))\n (zone (layer F.SilkS) (polygon (pts (xy 0 0) (xy 1 0))) (filled_polygon (pts))))",
+];
+
+#[test]
+fn keeps_boards_without_tasks(rt: HostRuntime) -> Result<(), Fail> {
+    let alloc = rt.alloc();
+    for text in WITHOUT_TASKS {
+        let mut desk = desk_with(alloc, &[], text)?;
+        assert!(rt; run_words(alloc, &mut desk, &["fill", "a", "b"])? == Ended::Done);
+        assert!(rt; desk.contents("b") == Some(text));
+        assert!(rt; desk.complained().is_empty());
+    }
+    Ok(())
+}
+
+/// Fills that stand in a zone, each with the white space before it.
+const OLD_FILLS: [&str; 4] = [
+    "",
+    "\n    (filled_polygon\n      (layer \"F.Cu\")\n      (pts (xy 1 1) (xy 2 1) (xy 2 2))\n    )",
+    " (fill_segments (layer \"F.Cu\") (pts (xy 1 1) (xy 2 1)))(filled_polygon)",
+    "\n\t(filled_polygon (layer \"B.Cu\") (island) (pts))\n\n\n(filled_polygon x \")\" )",
+];
+
+#[test]
+fn takes_old_fills_out(rt: HostRuntime) -> Result<(), Fail> {
+    let alloc = rt.alloc();
+    let front = board(alloc, "0.25", SQUARE)?;
+    let (_, _, corners) = FILLS[0];
+    let ring = ring(alloc, corners)?;
+    let filled = format!(in alloc; "{front}{ring}{END}")?;
+    for old in OLD_FILLS {
+        let text = format!(in alloc; "{front}{old}{END}")?;
+        let mut desk = desk_with(alloc, &[], text.as_bytes())?;
+        assert!(rt;
+            run_words(alloc, &mut desk, &["fill", "a", "b"])? == Ended::Done,
+            "{old}"
+        );
+        assert!(rt; desk.contents("b") == Some(filled.as_bytes()), "{old}");
+        // filled again, it stays
+        assert!(rt;
+            run_words(alloc, &mut desk, &["fill", "b", "c"])? == Ended::Done,
+            "{old}"
+        );
+        assert!(rt; desk.contents("c") == Some(filled.as_bytes()), "{old}");
+    }
     Ok(())
 }
 

@@ -3,7 +3,7 @@ use Rattle.std.specs.String.{string_bytes}
 use Rattle.desk.specs.Seen.{content, with_file}
 use Rattle.desk.proofs.Rooms.{has_less, room_left}
 use Rattle.zonefill.specs.Leaves.{Leaves}
-use Rattle.zonefill.proofs.Owes.{owes_usage, leaves_unread, leaves_refused, due_bytes, room_after, some_bytes, cut_short}
+use Rattle.zonefill.proofs.Owes.{owes_usage, leaves_unread, leaves_refused, due_bytes, room_after, some_filled, cut_short}
 use Rattle.zonefill.proofs.run.work.Goals as goal
 
 pub returns-in-Err-clause-leaves : goal.returns-in-Err-clause-leaves
@@ -53,7 +53,7 @@ returns-in-Ok-write_all-clause-room g c = room_left _ _ _ 256 (room_after (map s
 pub returns-clause-leaves : goal.returns-clause-leaves
 returns-clause-leaves g c s e =
     let f = c.in-Ok-filled.ensures.filled in
-    let some = subst (λ b. 0 < length b) (sym c.deref-2.ensures.value) (some_bytes c.deref.result.now c.in-Ok-filled.bytes.items f.0 f.1 f.3) in
+    let some = subst (λ b. 0 < length b) (sym c.deref-2.ensures.value) (some_filled c.deref.result.now c.in-Ok-filled.bytes.items f.0 f.1 f.3) in
     let cut = cut_short c.in-Ok.names.output.now c.deref-2.result.now c.in-Err-write_all.given s _ some (c.in-Err-write_all.ensures.cut s (c.in-Ok-read_all.ensures.seen ∙ e)) in (
       cut.0,
       (

@@ -1,0 +1,9 @@
+pub mod Around
+pub mod Walks
+pub mod Plain
+pub mod Cover
+pub mod Tasks
+pub mod Accepted
+pub mod Layers
+pub mod Rings
+pub mod Outlines

@@ -1,5 +1,0 @@
-pub mod Sets
-pub mod Looked
-pub mod Parts
-pub mod Unique
-pub mod Roots
