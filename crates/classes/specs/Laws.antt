@@ -23,7 +23,7 @@ pub record ClassLaw : Type 0 where
       → (a b : ℕ) → Reaches (AreLinked links) a b → IsOneOf a set → IsOneOf b set
 
 -- a class has at most one least member, and all its members have the same one
-pub record LeastLaw : Type 0 where
+pub record LeastMemberLaw : Type 0 where
   pub one : (links : List Link) (a m n : ℕ) → IsLeastOf (AreLinked links) (λ x y. x ≤ y) a m
       → IsLeastOf (AreLinked links) (λ x y. x ≤ y) a n → m ≡ n
   pub shared : (links : List Link) (a b m : ℕ) → Reaches (AreLinked links) a b

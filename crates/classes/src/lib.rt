@@ -3,7 +3,7 @@
 //! Things are of any type; no number here has a unit.
 #![tactic(auto)]
 
-ghost use Rattle.classes.specs.Laws.{ClassLaw, LeastLaw};
+ghost use Rattle.classes.specs.Laws.{ClassLaw, LeastMemberLaw};
 
 /// Reaching along links that go both ways is reflexive, symmetric and transitive, holds every link, and goes no
 /// further than a set that no link leaves.
@@ -13,5 +13,5 @@ pub fn class_law()
 
 /// A class has at most one least member, which is the same whichever member one starts from.
 pub fn least_law()
-    ensures { LeastLaw }
+    ensures { LeastMemberLaw }
 {}

@@ -8,7 +8,9 @@ use Rattle.grid_num.specs.declared.Point.{Point}
 use Rattle.plane.specs.Plane.{PlanePoint, Bounds, IsTight}
 use Rattle.plane.specs.Narrow.{IsNearZero}
 use Rattle.octagon.specs.Room.{IsAround}
-use Rattle.covering.specs.Corners.{corners_of}
+use Rattle.octagon.proofs.Plain.{code_read, code_sub, code_add}
+use Rattle.octagon.proofs.Moves.{code_corners}
+use Rattle.plane.specs.Corners.{corners_of}
 use Rattle.touching.specs.Core.{Core, area, line, IsWhole, InCopper}
 use Rattle.cores.specs.Room.{IsInRoom, IsAreaInRoom, IsLineInRoom, IsCoreInRoom, spot}
 use Rattle.hulls.specs.Hulls.{hull_of, hulls_of, in_units}
@@ -70,15 +72,6 @@ corner_places m b t h =
     (place m b.x0 (b.s0 -ℤ b.x0) n.x0 (record { low = omega (arith, ints, t, n); high = omega (arith, ints, t, n) }))
 
 -- ---- the corners as the code computes them
-abbrev code_read : ℤ → ℤ
-code_read a = to_z w64 (of_z w64 a)
-
-abbrev code_sub : ℤ → ℤ → ℤ
-code_sub a b = to_z w64 (of_z w64 (to_z w64 (of_z w64 a) -ℤ to_z w64 (of_z w64 b)))
-
-abbrev code_add : ℤ → ℤ → ℤ
-code_add a b = to_z w64 (of_z w64 (to_z w64 (of_z w64 a) +ℤ to_z w64 (of_z w64 b)))
-
 abbrev Wide : ℤ → Type 0
 Wide z = IsNearZero 4000000000 z
 
@@ -114,18 +107,6 @@ pub are_wide : (b : Bounds) → IsTight b → IsAround 2000000000 b → AreWide 
 are_wide b t h =
     let n = near_area 2000000000 b t h in
     record { x0 = wide b.x0 n.x0; x1 = wide b.x1 n.x1; y0 = wide b.y0 n.y0; y1 = wide b.y1 n.y1; s0 = n.s0; s1 = n.s1; d0 = n.d0; d1 = n.d1 }
-
-abbrev pub code_corners : Bounds → List Point
-code_corners b =
-    record { x = code_sub b.s0 b.y0; y = code_read b.y0 }
-    ∷ record { x = code_add b.d1 b.y0; y = code_read b.y0 }
-    ∷ record { x = code_read b.x1; y = code_sub b.x1 b.d1 }
-    ∷ record { x = code_read b.x1; y = code_sub b.s1 b.x1 }
-    ∷ record { x = code_sub b.s1 b.y1; y = code_read b.y1 }
-    ∷ record { x = code_add b.d0 b.y1; y = code_read b.y1 }
-    ∷ record { x = code_read b.x0; y = code_sub b.x0 b.d0 }
-    ∷ record { x = code_read b.x0; y = code_sub b.s0 b.x0 }
-    ∷ []
 
 pub code_corners-is : (b : Bounds) → AreWide b → code_corners b ≡ corners_of b
 code_corners-is b w =

@@ -5,7 +5,8 @@ use Rattle.std.specs.Int.RustNames.{unsigned_abs}
 use Rattle.std.proofs.lemmas.Int.{ints}
 use Rattle.std.proofs.Math.Nat.{mul-le-mul}
 use Rattle.grid_num.specs.declared.Point.{Point}
-use Rattle.plane.specs.Plane.{PlanePoint, Bounds, box_of, least_root}
+use Rattle.plane.specs.Plane.{PlanePoint, Bounds, box_of}
+use Rattle.grid_num.specs.Roots.{least_root}
 use Rattle.touching.specs.Core.{Core, Spot, area, line, OnLine}
 use Rattle.hulls.specs.Hulls.{chord_of, hulls_of, edge_core, edge_radius, edge_hulls_of, in_halves}
 use Rattle.hulls.specs.Laws.{InSome, InChordDisc, nm_in_units}

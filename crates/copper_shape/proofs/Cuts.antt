@@ -8,10 +8,10 @@ use Rattle.std.proofs.lemmas.List.{append-nil}
 use Rattle.grid_num.specs.declared.Point.{Point}
 use Rattle.plane.specs.Plane.{Bounds}
 use Rattle.plane.specs.Narrow.{IsNearZero}
-use Rattle.plane.proofs.Times.{mul_le, mul_neg}
+use Rattle.grid_num.proofs.Products.{mul_le, mul_neg}
 use Rattle.touching.specs.Core.{Spot, line}
 use Rattle.hulls.specs.Hulls.{hull_of, cut_at, is_slanted, piece_count, piece_hull, piece_hulls, hulls_of}
-use Rattle.copper_shape.specs.Ranges.{IsPlace}
+use Rattle.copper_shape.specs.Inner.Ranges.{IsPlaceInRoom}
 
 pub product_near : (i m : ℕ) (s : ℤ) → IsNearZero m s → IsNearZero (i * m) (pos i *ℤ s)
 product_near i m s h = record {
@@ -43,7 +43,7 @@ point x y = record { x = x; y = y }
 
 pub record IsCut (s t : Spot) (k i : ℕ) (p : Point) : Type 0 where
   pub value : p ≡ cut_at s t k i
-  pub place : IsPlace (4 * k) p
+  pub place : IsPlaceInRoom (4 * k) p
 
 read_near : (z v : ℤ) → z ≡ v → IsNearZero 128000000000 z → to_z w64 (of_z w64 z) ≡ v
 read_near z v e h = omega (arith, ints)

@@ -10,12 +10,12 @@ use Rattle.grid_num.specs.declared.Point.{Point}
 use Rattle.plane.specs.Plane.{Bounds, ball_of}
 use Rattle.plane.specs.Narrow.{IsNearZero}
 use Rattle.octagon.specs.Room.{IsAround}
-use Rattle.covering.specs.Corners.{corners_of}
+use Rattle.plane.specs.Corners.{corners_of}
 use Rattle.touching.specs.Core.{Core, Spot, area, line, IsWhole}
 use Rattle.cores.specs.Room.{IsInRoom, IsLineInRoom, IsCoreInRoom}
-use Rattle.hulls.specs.Cells.{cells_of}
-use Rattle.hulls.specs.Hulls.{hull_of, cut_at, piece_hull, piece_hulls, pieces_of, hulls_of}
-use Rattle.copper_shape.specs.Laws.{ReachLaw}
+use Rattle.hulls.specs.Cells.{points_round_all}
+use Rattle.hulls.specs.Hulls.{hull_of, cut_at, piece_hull, piece_hulls, count_pieces, hulls_of}
+use Rattle.copper_shape.specs.Laws.{HullReachLaw}
 use Rattle.copper_shape.proofs.CellLists.{cells_near, cells_some, around_near}
 use Rattle.copper_shape.proofs.Cuts.{product_near}
 use Rattle.copper_shape.proofs.Areas.{corner_places, around_of}
@@ -26,7 +26,7 @@ quarter r a h = omega arith
 hull_reach : (n m a : ℕ) (ps : List Point) (r : ℕ) → 1 ≤ n → 0 < length ps → All (IsInRoom (n * m)) ps → r ≤ 4 * a → IsAround (m + a) (hull_of n ps r)
 unfolding hull_of ball_of
 hull_reach n m a ps r one some h l =
-    let i = around_near m (cells_of n ps) (cells_some n ps some) (cells_near n m ps one h) in
+    let i = around_near m (points_round_all n ps) (cells_some n ps some) (cells_near n m ps one h) in
     let q = quarter r a l in
     record {
       x_low = omega (arith, ints, i.x0, q);
@@ -61,12 +61,12 @@ pieces_reach s t k m a r i (suc n) w h l =
     (two (IsInRoom (4 * k * m)) (cut_at s t k i) (cut_at s t k (suc i)) (cut_near s t k i m (omega arith) h) (cut_near s t k (suc i) m (omega arith) h)) l)
     (pieces_reach s t k m a r (suc i) n (omega arith) h l)
 
-pub reach_law : ReachLaw
+pub reach_law : HullReachLaw
 unfolding IsWhole IsCoreInRoom hulls_of
 reach_law m a (area b) r whole near l =
     All-cons (IsAround (m + a)) (hull_of 4 (corners_of b) r) [] (hull_reach 4 m a (corners_of b) r (omega arith) (omega arith) (corner_places (4 * m) b whole (around_of (4 * m) b near)) l)
     (All-nil (IsAround (m + a)))
-reach_law m a (line s t) r whole near l = pieces_reach s t (pieces_of s t) m a r 0 (pieces_of s t) (omega arith) near l
+reach_law m a (line s t) r whole near l = pieces_reach s t (count_pieces s t) m a r 0 (count_pieces s t) (omega arith) near l
 
 pub shape_reach : (c : Core) (r : ℕ) (hulls : List Bounds) → hulls ≡ hulls_of c r → IsWhole c → IsCoreInRoom 2000000000 c → r ≤ 2000000000 → All (IsAround 1000000000) hulls
 shape_reach c r hulls e w h l = rw e (reach_law 500000000 500000000 c r w h l)

@@ -5,8 +5,8 @@ use Rattle.std.proofs.lemmas.Int.{ints}
 use lib.IntN.{*ℤ_comm}
 use Rattle.grid_num.specs.declared.Point.{Point}
 use Rattle.plane.specs.Narrow.{IsNearZero}
-use Rattle.plane.proofs.Times.{mul_neg, mul_le_back}
-use Rattle.hulls.specs.Cells.{floor_of, ceil_of, cell_of}
+use Rattle.grid_num.proofs.Products.{mul_neg, mul_le_back}
+use Rattle.hulls.specs.Cells.{floor_of, ceil_of, points_round}
 use Rattle.hulls.proofs.Rounding.{floor_low, floor_law, ceil_law}
 use Rattle.hulls.proofs.InCells.{ceil_high}
 
@@ -79,8 +79,8 @@ pub code_cell : (n : ℕ) (p : Point) (w e a b px py : ℤ) → px ≡ p.x → p
     ∷ point (to_z w64 (of_z w64 w)) (to_z w64 (of_z w64 b))
     ∷ point (to_z w64 (of_z w64 e)) (to_z w64 (of_z w64 b))
     ∷ [])
-    ≡ cell_of n p
-unfolding cell_of
+    ≡ points_round n p
+unfolding points_round
 code_cell n p w e a b px py xe ye we wn ee en ae an be bn =
     let west = read_near w (floor_of n p.x) (rw xe at we) wn in
     let east = read_near e (ceil_of n p.x) (rw xe at ee) en in

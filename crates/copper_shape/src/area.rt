@@ -1,19 +1,19 @@
 // The hull of an area.
 ghost use Rattle.std.specs.Prelude.{◌≡◌, ◌≤◌, IfOk};
 ghost use Rattle.plane.specs.Plane.{IsTight};
-ghost use Rattle.covering.specs.Corners.{corners_of};
+ghost use Rattle.plane.specs.Corners.{corners_of};
 ghost use Rattle.touching.specs.Core.{area};
 ghost use Rattle.hulls.specs.Hulls.{hulls_of};
 ghost use Rattle.octagon.specs.Room.{IsAround};
 
 use crate::cells::hull;
-use cores::Area;
+use cores::AreaBounds;
 use grid_num::{Memory, Point};
 use octagon::Oct;
 use std::alloc::Global;
 
 // The one hull of an area and a radius, in halves.
-pub fn area_hulls(alloc: Global, bounds: &Area, radius: u32) -> Result<Vec<Oct>, Memory>
+pub fn area_hulls(alloc: Global, bounds: &AreaBounds, radius: u32) -> Result<Vec<Oct>, Memory>
     requires tight { IsTight bounds.now }
     requires within { IsAround 2000000000 bounds.now }
     requires radius { radius ≤ 2000000000 }
@@ -25,7 +25,7 @@ pub fn area_hulls(alloc: Global, bounds: &Area, radius: u32) -> Result<Vec<Oct>,
 }
 
 // The corners, clockwise on the screen, from the left end of the top edge.
-fn corners(area: &Area) -> [Point; 8]
+fn corners(area: &AreaBounds) -> [Point; 8]
     requires tight { IsTight area.now }
     requires within { IsAround 2000000000 area.now }
     ensures { result ≡ corners_of area.now }

@@ -3,9 +3,9 @@
 ghost use Rattle.std.specs.Prelude.{◌≡◌, ◌≤◌, ◌<◌, ◌*◌, length, IfOk};
 ghost use Rattle.std.specs.List.{All};
 ghost use Rattle.plane.specs.Narrow.{IsNearZero};
-ghost use Rattle.hulls.specs.Cells.{floor_of, ceil_of, cell_of, cells_of};
+ghost use Rattle.hulls.specs.Cells.{floor_of, ceil_of, points_round, points_round_all};
 ghost use Rattle.hulls.specs.Hulls.{hull_of};
-ghost use Rattle.copper_shape.specs.Ranges.{IsPlace};
+ghost use Rattle.copper_shape.specs.Inner.Ranges.{IsPlaceInRoom};
 
 use grid_num::{Memory, Point, ceil_div};
 use octagon::Oct;
@@ -15,7 +15,7 @@ use std::alloc::Global;
 pub fn hull(alloc: Global, n: u32, corners: &[Point], radius: u32) -> Result<Oct, Memory>
     requires some { 0 < length corners.now }
     requires scale { (1 ≤ n) × (n ≤ 256) }
-    requires places { All (IsPlace n) corners.now }
+    requires places { All (IsPlaceInRoom n) corners.now }
     requires radius { radius ≤ 2000000000 }
     ensures { IfOk result (λ h. h ≡ hull_of n corners.now radius) }
 {
@@ -27,8 +27,8 @@ pub fn hull(alloc: Global, n: u32, corners: &[Point], radius: u32) -> Result<Oct
 // The grid points round all places.
 fn cells(alloc: Global, n: u32, places: &[Point]) -> Result<Vec<Point>, Memory>
     requires scale { (1 ≤ n) × (n ≤ 256) }
-    requires places { All (IsPlace n) places.now }
-    ensures { IfOk result (λ cells. cells.items ≡ cells_of n places.now) }
+    requires places { All (IsPlaceInRoom n) places.now }
+    ensures { IfOk result (λ cells. cells.items ≡ points_round_all n places.now) }
 {
     let mut cells = Vec::new(alloc);
     'each: for place in places {
@@ -40,8 +40,8 @@ fn cells(alloc: Global, n: u32, places: &[Point]) -> Result<Vec<Point>, Memory>
 // The grid points round a place.
 fn cell(n: u32, place: Point) -> [Point; 4]
     requires scale { (1 ≤ n) × (n ≤ 256) }
-    requires place { IsPlace n place }
-    ensures { result ≡ cell_of n place }
+    requires place { IsPlaceInRoom n place }
+    ensures { result ≡ points_round n place }
 {
     let west = down(place.x, n);
     let east = up(place.x, n);

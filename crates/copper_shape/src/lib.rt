@@ -13,17 +13,13 @@ ghost use Rattle.hulls.specs.Cells.{floor_of};
 ghost use Rattle.hulls.specs.Hulls.{hulls_of, in_units};
 ghost use Rattle.hulls.specs.Laws.{InSome, IsPad};
 ghost use Rattle.copper_shape.specs.Shapes.{IsShape};
-ghost use Rattle.copper_shape.specs.Laws.{ReachLaw};
+ghost use Rattle.copper_shape.specs.Laws.{HullReachLaw};
 
 mod area;
 mod cells;
 mod edge;
-#[cfg(test)]
-mod hull_table;
 mod make;
 mod pieces;
-#[cfg(test)]
-mod tests;
 
 pub use cores::dist_sq;
 use cores::{Core, Kind};
@@ -110,5 +106,5 @@ fn hulls_of(alloc: Global, core: &Core, radius: u32) -> Result<Vec<Oct>, Memory>
 
 /// The hulls of a core within m units of 0, with a radius of at most a units, lie within m + a units of 0.
 pub fn reach_law()
-    ensures { ReachLaw }
+    ensures { HullReachLaw }
 {}

@@ -4,7 +4,7 @@ ghost use Rattle.plane.specs.Narrow.{IsNearZero};
 ghost use Rattle.touching.specs.Core.{line};
 ghost use Rattle.hulls.specs.Hulls.{cut_at as place_of, piece_count as count_of, piece_hull as hull_of_piece, is_slanted as slants, hulls_of};
 ghost use Rattle.cores.specs.Room.{IsInRoom, spot};
-ghost use Rattle.copper_shape.specs.Ranges.{IsPlace};
+ghost use Rattle.copper_shape.specs.Inner.Ranges.{IsPlaceInRoom};
 
 use crate::cells::hull;
 use grid_num::{Memory, Point};
@@ -54,7 +54,7 @@ fn cut_at(from: Point, to: Point, count: u32, i: u32) -> Point
     requires count { count ≤ 64 }
     requires i { i ≤ count }
     ensures value { result ≡ place_of (spot from) (spot to) count i }
-    ensures place { IsPlace (4 * count) result }
+    ensures place { IsPlaceInRoom (4 * count) result }
 {
     Point {
         x: mean(count - i, from.x, i, to.x),

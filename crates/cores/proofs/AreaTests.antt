@@ -5,8 +5,8 @@ use Rattle.std.proofs.lemmas.Int.{ints}
 use Rattle.plane.specs.Plane.{Bounds, Within}
 use Rattle.plane.specs.Narrow.{IsNearZero}
 use Rattle.touching.specs.Core.{Spot}
-use Rattle.touching.specs.Decision.{Side, start_of, end_of, top, top_right, right, bottom_right, bottom, bottom_left, left, top_left, AreLinesClose, IsAreaClose, IsSideClose, IsOriginClose}
-use Rattle.cores.specs.Numbers.{IsRightClose, IsLeftClose, IsStraightClose, IsSlantedClose}
+use Rattle.touching.specs.Inner.Decision.{Side, start_of, end_of, top, top_right, right, bottom_right, bottom, bottom_left, left, top_left, AreLinesClose, IsAreaClose, IsSideClose, IsOriginClose}
+use Rattle.cores.specs.Inner.Numbers.{IsRightClose, IsLeftClose, IsStraightClose, IsSlantedClose}
 use Rattle.cores.proofs.CornerPlaces.{IsSmallArea}
 use Rattle.cores.proofs.Plain.{r64}
 

@@ -3,7 +3,7 @@ use Rattle.std.specs.Prelude.{ℕ, ◌*◌, ◌↔◌, IsTrue, Bool}
 use Rattle.std.proofs.Common.{◌≡◌, subst}
 use Rattle.plane.specs.Plane.{Bounds, IsTight}
 use Rattle.touching.specs.Core.{Core, Spot, area, line, IsWhole, Touches}
-use Rattle.touching.specs.Decision.{IsOriginClose, IsAreaClose, AreLinesClose, AreClose, steps_of}
+use Rattle.touching.specs.Inner.Decision.{IsOriginClose, IsAreaClose, AreLinesClose, AreClose, steps_of}
 use Rattle.touching.proofs.Decided.{decision_law}
 use Rattle.grid_num.specs.declared.Point.{Point}
 use Rattle.cores.specs.Room.{spot, IsInRoom, IsLineInRoom, IsAreaInRoom, IsCoreInRoom}

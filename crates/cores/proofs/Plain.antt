@@ -6,7 +6,7 @@ use Rattle.std.proofs.lemmas.Int.{ints, to_z-of_z}
 use Rattle.std.proofs.Math.Nat.{mul-le-mul_right}
 use mir.Syntax.{w128}
 use mir.Val.{SFits}
-use Rattle.touching.specs.Decision.{inner, cross}
+use Rattle.touching.specs.Inner.Decision.{inner, cross}
 use Rattle.plane.specs.Narrow.{IsNearZero}
 
 abbrev pub r64 : ℤ → ℤ

@@ -1,4 +1,3 @@
 pub mod Room
 pub mod Kinds
-pub mod Numbers
-pub mod Steps
+pub mod Inner

@@ -4,15 +4,12 @@ use Rattle.plane.specs.Plane.{Bounds}
 use Rattle.touching.specs.Core.{Spot, Core, area, line}
 use Rattle.grid_num.specs.declared.Point.{Point}
 pub use Rattle.plane.specs.Narrow.{IsNearZero}
+pub use Rattle.touching.specs.Core.{spot}
 
 -- both coordinates lie within m of 0
 pub record IsInRoom (m : ℕ) (p : Point) : Type 0 where
   pub x : IsNearZero m p.x
   pub y : IsNearZero m p.y
-
--- a point of the code as a place of the plane
-abbrev pub spot : Point → Spot
-spot p = record { x = p.x; y = p.y }
 
 -- an area lies within m of 0, in x and in y
 pub record IsAreaInRoom (m : ℕ) (b : Bounds) : Type 0 where

@@ -9,7 +9,7 @@ use std::marker::Model;
 
 /// Lower and upper bounds on x, y, x + y and x - y.
 #[derive(Clone, Copy, PartialEq, Eq, Debug)]
-pub struct Area {
+pub struct AreaBounds {
     pub x0: i64,
     pub x1: i64,
     pub y0: i64,
@@ -20,7 +20,7 @@ pub struct Area {
     pub d1: i64,
 }
 
-impl Model for Area {
+impl Model for AreaBounds {
     ghost use Rattle.plane.specs.Plane.{Bounds};
 
     ghost Value = { Bounds };
@@ -30,16 +30,16 @@ impl Model for Area {
     ghost inverse = { λ b. record { x0 = b.x0; x1 = b.x1; y0 = b.y0; y1 = b.y1; s0 = b.s0; s1 = b.s1; d0 = b.d0; d1 = b.d1 } };
 }
 
-impl Area {
+impl AreaBounds {
     // The upright rectangle between two corners.
-    pub(crate) fn rectangle(least: Point, greatest: Point) -> Area
+    pub(crate) fn rectangle(least: Point, greatest: Point) -> AreaBounds
         requires least { IsInRoom 2000000000 least }
         requires greatest { IsInRoom 2000000000 greatest }
         requires across { least.x ≤ℤ greatest.x }
         requires along { least.y ≤ℤ greatest.y }
         ensures { result ≡ box_of least.x greatest.x least.y greatest.y }
     {
-        Area {
+        AreaBounds {
             x0: least.x,
             x1: greatest.x,
             y0: least.y,
@@ -52,11 +52,11 @@ impl Area {
     }
 
     // An octagon of units in halves, 4 to the unit.
-    pub(crate) fn of_oct(oct: &Oct) -> Area
+    pub(crate) fn of_oct(oct: &Oct) -> AreaBounds
         ensures value { result ≡ times 4 oct.now }
         ensures tight { IsTight oct.now }
     {
-        Area {
+        AreaBounds {
             x0: in_halves(oct.x0()),
             x1: in_halves(oct.x1()),
             y0: in_halves(oct.y0()),

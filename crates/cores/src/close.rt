@@ -2,11 +2,11 @@
 ghost use Rattle.std.specs.Prelude.{◌↔◌, ◌≤◌, IsTrue};
 ghost use Rattle.plane.specs.Plane.{IsTight};
 ghost use Rattle.touching.specs.Core.{IsWhole, area, line};
-ghost use Rattle.touching.specs.Decision.{AreClose};
+ghost use Rattle.touching.specs.Inner.Decision.{AreClose};
 ghost use Rattle.cores.specs.Room.{IsInRoom, IsAreaInRoom, IsLineInRoom, IsCoreInRoom, spot};
 ghost use Rattle.cores.specs.Kinds.{core_of};
 
-use crate::area::Area;
+use crate::area::AreaBounds;
 use crate::kind::{Kind, Line};
 use crate::line::are_lines_close;
 use crate::sides::is_area_close;
@@ -14,7 +14,7 @@ use crate::steps::are_areas_close;
 use grid_num::Point;
 
 // An area and another core.
-fn is_close_to_area(a: u64, b: &Area, other: &Kind) -> bool
+fn is_close_to_area(a: u64, b: &AreaBounds, other: &Kind) -> bool
     requires a { a ≤ 160000000000000000 }
     requires tight { IsTight b.now }
     requires room { IsAreaInRoom 1200000000 b.now }
@@ -68,7 +68,7 @@ fn is_place_in_room(p: Point) -> bool
 }
 
 // Whether the area lies there.
-fn is_area_in_room(b: &Area) -> bool
+fn is_area_in_room(b: &AreaBounds) -> bool
     ensures { IsTrue result ↔ IsAreaInRoom 1200000000 b.now }
 {
     b.x0 >= -1_200_000_000

@@ -1,13 +1,13 @@
 // The corners of an area, clockwise on the screen. Each is the start of the side that its name says.
 ghost use Rattle.std.specs.Prelude.{◌≡◌};
 ghost use Rattle.plane.specs.Plane.{IsTight};
-ghost use Rattle.touching.specs.Decision.{start_of, top, top_right, right, bottom_right, bottom, bottom_left, left, top_left};
+ghost use Rattle.touching.specs.Inner.Decision.{start_of, top, top_right, right, bottom_right, bottom, bottom_left, left, top_left};
 ghost use Rattle.cores.specs.Room.{IsInRoom, IsAreaInRoom, spot};
 
-use crate::area::Area;
+use crate::area::AreaBounds;
 use grid_num::Point;
 
-impl Area {
+impl AreaBounds {
     // The left end of the top side.
     pub(crate) fn top_start(&self) -> Point
         requires tight { IsTight self.now }

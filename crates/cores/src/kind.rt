@@ -1,5 +1,5 @@
 // What a core is.
-use crate::area::Area;
+use crate::area::AreaBounds;
 use grid_num::Point;
 
 /// The straight way between two places.
@@ -12,6 +12,6 @@ pub struct Line {
 /// What a core is: its bounds, which are tight, or its ends.
 #[derive(Clone, Copy, PartialEq, Eq, Debug)]
 pub enum Kind {
-    Area(Area),
+    Area(AreaBounds),
     Line(Line),
 }

@@ -18,13 +18,9 @@ mod line;
 mod number;
 mod sides;
 mod steps;
-#[cfg(test)]
-mod table;
-#[cfg(test)]
-mod tests;
 
 use crate::close::{are_close, is_in_room};
-pub use area::Area;
+pub use area::AreaBounds;
 pub use distance::dist_sq;
 use grid_num::Point;
 pub use kind::{Kind, Line};
@@ -45,13 +41,13 @@ impl Model for Core {
 
     ghost use Rattle.std.proofs.Common.{ap};
     ghost use Rattle.touching.specs.Core.{IsWhole};
-    ghost use Rattle.cores.specs.Kinds.{core_of, kind_of, kind_again};
+    ghost use Rattle.cores.specs.Kinds.{core_of, core_kind, kind_again};
 
     ghost view = { λ a. core_of a.kind };
 
     ghost invariant = { λ a. IsWhole (core_of a.kind) };
 
-    ghost inverse = { λ c. record { kind = kind_of c } };
+    ghost inverse = { λ c. record { kind = core_kind c } };
 
     ghost inverse_ok = { λ a h. ap (λ k. record { kind = k }) (kind_again a.kind) };
 }
@@ -83,7 +79,7 @@ impl Core {
         ensures { result ≡ area (box_of least.x greatest.x least.y greatest.y) }
     {
         Core {
-            kind: Kind::Area(Area::rectangle(least, greatest)),
+            kind: Kind::Area(AreaBounds::rectangle(least, greatest)),
         }
     }
 
@@ -92,7 +88,7 @@ impl Core {
         ensures { result ≡ area (times 4 oct.now) }
     {
         Core {
-            kind: Kind::Area(Area::of_oct(oct)),
+            kind: Kind::Area(AreaBounds::of_oct(oct)),
         }
     }
 

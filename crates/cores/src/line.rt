@@ -1,8 +1,8 @@
 // Two lines, and a point and a line: whether they come close.
 ghost use Rattle.std.specs.Prelude.{◌≡◌, ◌↔◌, ◌⊎◌, ◌≤◌, pos, neg_ℤ, ◌+ℤ◌, ◌-ℤ◌, ◌*ℤ◌, ◌≤ℤ◌, ◌<ℤ◌, IsTrue};
-ghost use Rattle.touching.specs.Decision.{IsBeside, IsPointClose, IsSquare, IsCrossing, AreLinesClose, cross};
+ghost use Rattle.touching.specs.Inner.Decision.{IsPointBeside, IsPointClose, IsSquare, AreLinesCrossing, AreLinesClose, cross};
 ghost use Rattle.cores.specs.Room.{IsNearZero, IsInRoom, spot};
-ghost use Rattle.cores.specs.Numbers.{IsBesideBy, AreCrossesOn};
+ghost use Rattle.cores.specs.Inner.Numbers.{IsBesideBy, AreCrossesOn};
 
 use crate::number::{cross_product, inner_product, offset};
 use grid_num::Point;
@@ -33,7 +33,7 @@ fn is_beside(a: u64, wx: i64, wy: i64, vx: i64, vy: i64) -> bool
     requires a { a ≤ 160000000000000000 }
     requires w { IsNearZero 2400000000 wx × IsNearZero 2400000000 wy }
     requires v { IsNearZero 2400000000 vx × IsNearZero 2400000000 vy }
-    ensures { IsTrue result ↔ IsBeside a wx wy vx vy }
+    ensures { IsTrue result ↔ IsPointBeside a wx wy vx vy }
 {
     let far = inner_product(wx, wy, wx, wy);
     let along = inner_product(wx, wy, vx, vy);
@@ -88,7 +88,7 @@ fn is_crossing(wx: i64, wy: i64, vx: i64, vy: i64, yx: i64, yy: i64) -> bool
     requires w { IsNearZero 2400000000 wx × IsNearZero 2400000000 wy }
     requires v { IsNearZero 2400000000 vx × IsNearZero 2400000000 vy }
     requires y { IsNearZero 2400000000 yx × IsNearZero 2400000000 yy }
-    ensures { IsTrue result ↔ IsCrossing wx wy vx vy yx yy }
+    ensures { IsTrue result ↔ AreLinesCrossing wx wy vx vy yx yy }
 {
     let lines = cross_product(vx, vy, yx, yy);
     let first = cross_product(yx, yy, wx, wy);
@@ -102,7 +102,7 @@ fn are_crossing(s: Point, t: Point, u: Point, v: Point) -> bool
     requires t { IsInRoom 1200000000 t }
     requires u { IsInRoom 1200000000 u }
     requires v { IsInRoom 1200000000 v }
-    ensures { IsTrue result ↔ IsCrossing (s.x -ℤ u.x) (s.y -ℤ u.y) (t.x -ℤ s.x) (t.y -ℤ s.y) (v.x -ℤ u.x) (v.y -ℤ u.y) }
+    ensures { IsTrue result ↔ AreLinesCrossing (s.x -ℤ u.x) (s.y -ℤ u.y) (t.x -ℤ s.x) (t.y -ℤ s.y) (v.x -ℤ u.x) (v.y -ℤ u.y) }
 {
     is_crossing(
         offset(u.x, s.x),

@@ -1,6 +1,6 @@
 // Products in 128 bits, of numbers that are known to be small.
 ghost use Rattle.std.specs.Prelude.{◌≡◌, pos, ◌+ℤ◌, ◌-ℤ◌, ◌*ℤ◌, ◌≤ℤ◌};
-ghost use Rattle.touching.specs.Decision.{inner, cross};
+ghost use Rattle.touching.specs.Inner.Decision.{inner, cross};
 ghost use Rattle.cores.specs.Room.{IsNearZero};
 
 // How far one number lies beyond another.

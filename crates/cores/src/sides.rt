@@ -1,15 +1,15 @@
 // Whether a line comes close to an area.
 ghost use Rattle.std.specs.Prelude.{◌↔◌, ◌⊎◌, ◌≤◌, ◌≤ℤ◌, IsTrue};
 ghost use Rattle.plane.specs.Plane.{Within, IsTight};
-ghost use Rattle.touching.specs.Decision.{IsAreaClose};
+ghost use Rattle.touching.specs.Inner.Decision.{IsAreaClose};
 ghost use Rattle.cores.specs.Room.{IsInRoom, IsAreaInRoom, spot};
-ghost use Rattle.cores.specs.Numbers.{IsRightClose, IsLeftClose};
+ghost use Rattle.cores.specs.Inner.Numbers.{IsRightClose, IsLeftClose};
 
-use crate::area::Area;
+use crate::area::AreaBounds;
 use crate::line::are_lines_close;
 use grid_num::Point;
 
-impl Area {
+impl AreaBounds {
     // Whether the place is in the area.
     pub(crate) fn holds(&self, p: Point) -> bool
         requires place { IsInRoom 1200000000 p }
@@ -47,7 +47,7 @@ pub fn any(x: bool, y: bool, z: bool, w: bool) -> bool
 }
 
 // Whether the line from s to t comes close to a side from the top clockwise to the bottom right.
-fn is_right_close(a: u64, b: &Area, s: Point, t: Point) -> bool
+fn is_right_close(a: u64, b: &AreaBounds, s: Point, t: Point) -> bool
     requires a { a ≤ 160000000000000000 }
     requires tight { IsTight b.now }
     requires room { IsAreaInRoom 1200000000 b.now }
@@ -69,7 +69,7 @@ fn is_right_close(a: u64, b: &Area, s: Point, t: Point) -> bool
 }
 
 // The same of a side from the bottom clockwise to the top left.
-fn is_left_close(a: u64, b: &Area, s: Point, t: Point) -> bool
+fn is_left_close(a: u64, b: &AreaBounds, s: Point, t: Point) -> bool
     requires a { a ≤ 160000000000000000 }
     requires tight { IsTight b.now }
     requires room { IsAreaInRoom 1200000000 b.now }
@@ -91,7 +91,7 @@ fn is_left_close(a: u64, b: &Area, s: Point, t: Point) -> bool
 }
 
 // Whether the line from s to t starts in the area, or comes close to one of its sides.
-pub fn is_area_close(a: u64, b: &Area, s: Point, t: Point) -> bool
+pub fn is_area_close(a: u64, b: &AreaBounds, s: Point, t: Point) -> bool
     requires a { a ≤ 160000000000000000 }
     requires tight { IsTight b.now }
     requires room { IsAreaInRoom 1200000000 b.now }

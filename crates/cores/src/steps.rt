@@ -1,17 +1,17 @@
 // Whether two areas come close: the octagon of all steps from the one to the other, and the origin.
 ghost use Rattle.std.specs.Prelude.{◌≡◌, ◌↔◌, ◌*◌, ◌≤◌, ◌⊎◌, ◌+ℤ◌, ◌-ℤ◌, ◌≤ℤ◌, ◌<ℤ◌, ◌*ℤ◌, IsTrue, pos};
 ghost use Rattle.plane.specs.Plane.{Within, IsTight};
-ghost use Rattle.touching.specs.Decision.{IsSideClose, IsOriginClose, steps_of};
+ghost use Rattle.touching.specs.Inner.Decision.{IsSideClose, IsOriginClose, steps_of};
 ghost use Rattle.cores.specs.Room.{IsNearZero, IsAreaInRoom};
-ghost use Rattle.cores.specs.Numbers.{IsStraightClose, IsSlantedClose};
-ghost use Rattle.cores.specs.Steps.{bounds_of, AreSmallSteps};
+ghost use Rattle.cores.specs.Inner.Numbers.{IsStraightClose, IsSlantedClose};
+ghost use Rattle.cores.specs.Inner.Steps.{step_bounds, AreSmallSteps};
 
-use crate::area::Area;
+use crate::area::AreaBounds;
 use crate::sides::{all, any, is_between};
 
 // The bounds of all steps from a point of one area to a point of another.
 #[derive(Clone, Copy)]
-pub struct Steps {
+pub struct StepBounds {
     pub x0: i64,
     pub x1: i64,
     pub y0: i64,
@@ -33,15 +33,15 @@ fn beyond(a: i64, b: i64) -> i64
 }
 
 // The steps from an area to another.
-fn steps_between(b: &Area, c: &Area) -> Steps
+fn steps_between(b: &AreaBounds, c: &AreaBounds) -> StepBounds
     requires first_tight { IsTight b.now }
     requires first_room { IsAreaInRoom 1200000000 b.now }
     requires second_tight { IsTight c.now }
     requires second_room { IsAreaInRoom 1200000000 c.now }
-    ensures value { bounds_of result ≡ steps_of b.now c.now }
+    ensures value { step_bounds result ≡ steps_of b.now c.now }
     ensures small { AreSmallSteps result }
 {
-    Steps {
+    StepBounds {
         x0: beyond(b.x0, c.x1),
         x1: beyond(b.x1, c.x0),
         y0: beyond(b.y0, c.y1),
@@ -155,10 +155,10 @@ fn twice_more(a: i64, b: i64) -> i64
 }
 
 // Whether a level or upright side does.
-fn is_straight_close(a: u64, g: Steps) -> bool
+fn is_straight_close(a: u64, g: StepBounds) -> bool
     requires a { a ≤ 160000000000000000 }
     requires small { AreSmallSteps g }
-    ensures { IsTrue result ↔ IsStraightClose a (bounds_of g) }
+    ensures { IsTrue result ↔ IsStraightClose a (step_bounds g) }
 {
     any(
         is_side_close(a, g.x0, g.s0 - g.x0, g.x0 - g.d0),
@@ -169,10 +169,10 @@ fn is_straight_close(a: u64, g: Steps) -> bool
 }
 
 // Whether a slanted side does, in x + y and x - y, which double squared lengths.
-fn is_slanted_close(a: u64, g: Steps) -> bool
+fn is_slanted_close(a: u64, g: StepBounds) -> bool
     requires a { a ≤ 160000000000000000 }
     requires small { AreSmallSteps g }
-    ensures { IsTrue result ↔ IsSlantedClose a (bounds_of g) }
+    ensures { IsTrue result ↔ IsSlantedClose a (step_bounds g) }
 {
     let double = 2 * a;
     any(
@@ -184,9 +184,9 @@ fn is_slanted_close(a: u64, g: Steps) -> bool
 }
 
 // Whether no step at all is among them.
-fn holds_origin(g: Steps) -> bool
+fn holds_origin(g: StepBounds) -> bool
     requires { AreSmallSteps g }
-    ensures { IsTrue result ↔ Within (bounds_of g) (pos 0) (pos 0) }
+    ensures { IsTrue result ↔ Within (step_bounds g) (pos 0) (pos 0) }
 {
     let x = is_between(g.x0, g.x1, 0);
     let y = is_between(g.y0, g.y1, 0);
@@ -195,10 +195,10 @@ fn holds_origin(g: Steps) -> bool
     all(x, y, s, d)
 }
 
-fn is_origin_close(a: u64, g: Steps) -> bool
+fn is_origin_close(a: u64, g: StepBounds) -> bool
     requires a { a ≤ 160000000000000000 }
     requires small { AreSmallSteps g }
-    ensures { IsTrue result ↔ IsOriginClose a (bounds_of g) }
+    ensures { IsTrue result ↔ IsOriginClose a (step_bounds g) }
 {
     if holds_origin(g) {
         return true;
@@ -210,7 +210,7 @@ fn is_origin_close(a: u64, g: Steps) -> bool
 }
 
 // Whether the two areas meet, or a side of their steps comes close to the origin.
-pub fn are_areas_close(a: u64, b: &Area, c: &Area) -> bool
+pub fn are_areas_close(a: u64, b: &AreaBounds, c: &AreaBounds) -> bool
     requires a { a ≤ 160000000000000000 }
     requires first_tight { IsTight b.now }
     requires first_room { IsAreaInRoom 1200000000 b.now }

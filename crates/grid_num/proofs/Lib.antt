@@ -5,3 +5,8 @@ pub mod Meanings
 pub mod Digits
 pub mod Fractions
 pub mod Shortest
+pub mod SortedInts
+pub mod Areas
+pub mod Products
+pub mod Quotient
+pub mod Roots

@@ -20,7 +20,7 @@ same_size text n m w v f g s t =
     let e = same_parts text n m w v f g s t in
     ap (λ x. nanometres x f) e.1 ∙ ap (λ x. nanometres v x) e.2
 
-same_fine : (text : List ℕ) (n m : Bool) (w v f g : List ℕ) → IsSpelling text n w f → IsSpelling text m v g → IsWholeNm f → IsWholeNm g
+pub same_fine : (text : List ℕ) (n m : Bool) (w v f g : List ℕ) → IsSpelling text n w f → IsSpelling text m v g → IsWholeNm f → IsWholeNm g
 same_fine text n m w v f g s t h = subst IsWholeNm (same_parts text n m w v f g s t).2 h
 
 pub one_length_of : (text : List ℕ) (nm other : ℤ) → IsLength text nm → IsLength text other → nm ≡ other

@@ -19,6 +19,7 @@ IsWholeNm fraction = All (λ digit. digit ≡ 48) (drop 6 fraction)
 abbrev pub nanometres : List ℕ → List ℕ → ℕ
 nanometres whole fraction = number (whole ++ places fraction)
 
+-- the number with its sign
 abbrev pub with_sign : Bool → ℕ → ℤ
 with_sign true n = neg_ℤ (pos n)
 with_sign false n = pos n

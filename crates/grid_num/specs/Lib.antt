@@ -3,3 +3,5 @@ pub mod Length
 pub mod Written
 pub mod Faults
 pub mod Parts
+pub mod Area
+pub mod Roots

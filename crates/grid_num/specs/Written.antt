@@ -11,6 +11,7 @@ last_places (suc k) n = if n == 0 then [] else (48 + n / 10 ^ k) ∷ last_places
 abbrev pub with_point : ℕ → List ℕ
 with_point n = if n == 0 then [] else 46 ∷ last_places 6 n
 
+-- n nanometres in millimetres, without a sign
 abbrev pub mm_of_size : ℕ → List ℕ
 mm_of_size n = decimal (n / 1000000) ++ with_point (n % 1000000)
 

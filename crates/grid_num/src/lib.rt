@@ -4,16 +4,21 @@
 #![tactic(auto)]
 
 ghost use Rattle.std.specs.Prelude.{◌≡◌, ℕ, ◌*◌, ◌+◌, ◌^◌, ◌≤◌, ℤ, pos, ◌+ℤ◌, ◌*ℤ◌, ◌≤ℤ◌, ◌<ℤ◌, neg_ℤ};
-ghost use Rattle.plane.specs.Plane.{up2_of};
+ghost use Rattle.grid_num.specs.Roots.{up2_of, IsUp2};
 
+mod area;
 mod memory;
 mod nm;
 mod read;
 mod write;
 
+pub use area::{one_area, one_area_fault, read_area};
 pub use memory::Memory;
 pub use nm::Nm;
-pub use read::{NumFault, one_fault, one_length, one_spelling, read_mm};
+pub use read::{
+    NumFault, fraction_of, one_fault, one_length, one_spelling, place, read_mm, starts_with,
+    whole_of,
+};
 pub use write::{MmText, shortest_spelling, write_mm};
 
 /// A plain pair of whole numbers. Each user says its unit.
@@ -37,6 +42,11 @@ pub fn up2(a: u64) -> u64
     }
 }
 
+/// The reach of a disc of radius a along x + y is the least number whose square is at least `2 * a * a`.
+pub fn up2_law()
+    ensures { (a : ℕ) → IsUp2 a (up2_of a) }
+{}
+
 /// The least m with `m * d >= a`.
 pub fn ceil_div(a: i64, d: i64) -> i64
     requires { pos 0 <ℤ d }
@@ -45,76 +55,4 @@ pub fn ceil_div(a: i64, d: i64) -> i64
 {
     let quotient = a / d;
     if a % d > 0 { quotient + 1 } else { quotient }
-}
-
-#[cfg(test)]
-mod tests {
-    use super::*;
-    use std::test::Fail;
-
-    #[test]
-    fn reads_lengths(rt: HostRuntime) {
-        for (text, nm) in [
-            ("-0.000001", -1),
-            ("0.0000010", 1),
-            ("5.", 5_000_000),
-            (".5", 500_000),
-            ("+007", 7_000_000),
-            ("-0", 0),
-            ("-500", -500_000_000),
-            ("500.00000000", 500_000_000),
-        ] {
-            let read = read_mm(text.as_bytes());
-            assert_eq!(rt; read.map(|length| length.get()), Ok(nm), "{text}");
-        }
-    }
-
-    #[test]
-    fn refuses_other_texts(rt: HostRuntime) {
-        for (text, fault) in [
-            ("0.0000001", NumFault::TooFine),
-            ("999999.0000001", NumFault::TooFine),
-            ("500.000001", NumFault::OutOfRange),
-            ("-98765432109876543210987654321", NumFault::OutOfRange),
-            ("1e3", NumFault::NotANumber),
-            (".", NumFault::NotANumber),
-            ("", NumFault::NotANumber),
-            ("-", NumFault::NotANumber),
-            ("+-1", NumFault::NotANumber),
-            ("1.2.3", NumFault::NotANumber),
-            (" 1", NumFault::NotANumber),
-        ] {
-            let read = read_mm(text.as_bytes());
-            assert_eq!(rt; read.map(|length| length.get()), Err(fault), "{text}");
-        }
-    }
-
-    #[test]
-    fn writes_lengths(rt: HostRuntime) -> Result<(), Fail> {
-        let mut text = MmText::new();
-        for (nm, spelling) in [
-            (-500_000, "-0.5"),
-            (0, "0"),
-            (500_000_000, "500"),
-            (-499_999_999, "-499.999999"),
-            (10_000_010, "10.00001"),
-            (105_000_000, "105"),
-        ] {
-            let length = Nm::new(nm).expect(&rt, "a length within the range");
-            write_mm(length, &mut text);
-            assert_eq!(rt; text.bytes(), spelling.as_bytes());
-        }
-        assert!(rt; Nm::new(-500_000_001).is_none());
-        Ok(())
-    }
-
-    #[test]
-    fn rounds_up(rt: HostRuntime) {
-        for (a, reach) in [(0, 0), (1, 2), (2, 3), (5, 8), (100_000, 141_422)] {
-            assert_eq!(rt; up2(a), reach);
-        }
-        for (a, d, quotient) in [(7, 2, 4), (-7, 2, -3), (8, 2, 4), (-8, 2, -4), (0, 9, 0)] {
-            assert_eq!(rt; ceil_div(a, d), quotient);
-        }
-    }
 }

@@ -1,35 +1,36 @@
 // Reads a length in millimetres.
-ghost use Rattle.std.specs.Prelude.{◌≡◌, ℕ, ◌+◌, ◌-◌, ◌*◌, ◌<◌, ◌≤◌, ◌↔◌, Bool, List, ℤ, min, length, true, false, IsTrue, IfOk, IfErr, OnErr, IfSome, IfNone, slice_index_or};
+ghost use Rattle.std.specs.Prelude.{◌≡◌, ℕ, ◌+◌, ◌-◌, ◌*◌, ◌<◌, ◌≤◌, ◌^◌, ◌↔◌, Bool, List, ℤ, min, length, true, false, IsTrue, IfOk, IfErr, OnErr, IfSome, IfNone, slice_index_or};
 ghost use Rattle.std.specs.Char.{IsAsciiDigit, is_ascii_digit};
 ghost use Rattle.std.specs.List.{All};
 ghost use Rattle.grid_num.specs.Spelling.{IsSpelling, SpellsNone, number_after};
 ghost use Rattle.grid_num.specs.Length.{IsLength, IsWholeNm, nanometres, places, with_sign};
 ghost use Rattle.grid_num.specs.Faults.{HasFault};
 ghost use Rattle.grid_num.specs.declared.read.NumFault.{NumFault};
-ghost use Rattle.grid_num.specs.Parts.{begins_with, unsigned_of, digit_count, after_point};
+ghost use Rattle.grid_num.specs.Parts.{begins_with, unsigned_of, digit_count, whole_of, after_point, fraction_of};
 
 use crate::nm::{MOST, Nm};
 
-/// Why a text is no length.
+/// Why a text is no length, or no area.
 #[derive(Clone, Copy, PartialEq, Eq, Debug)]
 pub enum NumFault {
     /// The text is no decimal number.
     NotANumber,
     /// A digit past the sixth decimal place is not 0.
     TooFine,
-    /// The number is beyond 500 mm.
+    /// The number is beyond the range: 500 mm to either side for a length, 0 to 1,000,000 square millimetres for an area.
     OutOfRange,
 }
 
 /// The parts of a spelling.
 #[derive(Drop)]
-struct Parts<'a> {
-    negative: bool,
-    whole: &'a [u8],
-    fraction: &'a [u8],
+pub(crate) struct Parts<'a> {
+    pub(crate) negative: bool,
+    pub(crate) whole: &'a [u8],
+    pub(crate) fraction: &'a [u8],
 }
 
-fn starts_with(text: &[u8], byte: u8) -> bool
+/// Whether a text begins with a byte.
+pub fn starts_with(text: &[u8], byte: u8) -> bool
     requires { 0 < byte }
     ensures { result ≡ begins_with text.now byte }
 {
@@ -63,6 +64,22 @@ fn without_point(rest: &[u8]) -> &[u8]
     }
 }
 
+/// The digits of a text behind its sign and before its point.
+pub fn whole_of(text: &[u8]) -> &[u8]
+    ensures { result.now ≡ whole_of text.now }
+{
+    let unsigned = without_sign(text);
+    &unsigned[..digits_end(unsigned)]
+}
+
+/// What stands in a text behind the point.
+pub fn fraction_of(text: &[u8]) -> &[u8]
+    ensures { result.now ≡ fraction_of text.now }
+{
+    let unsigned = without_sign(text);
+    without_point(&unsigned[digits_end(unsigned)..])
+}
+
 fn are_digits(text: &[u8]) -> bool
     ensures { IsTrue result ↔ All IsAsciiDigit text.now }
 {
@@ -80,7 +97,7 @@ fn is_spelt(whole: &[u8], fraction: &[u8]) -> bool
 }
 
 /// The parts of a text that spells a number.
-fn parts_of(text: &[u8]) -> Option<Parts<'_>>
+pub(crate) fn parts_of(text: &[u8]) -> Option<Parts<'_>>
     ensures found { IfSome result (λ p. IsSpelling text.now p.negative p.whole.now p.fraction.now) }
     ensures none { IfNone result (SpellsNone text.now) }
 {
@@ -104,30 +121,29 @@ fn are_zeros(digits: &[u8]) -> bool
 }
 
 /// Whether no digit past the sixth place is another than 0.
-fn is_whole_nm(fraction: &[u8]) -> bool
+pub(crate) fn is_whole_nm(fraction: &[u8]) -> bool
     ensures { IsTrue result ↔ IsWholeNm fraction.now }
 {
     are_zeros(&fraction[fraction.len().min(6)..])
 }
 
-/// One more than the most nanometres stands for all greater numbers.
-const BEYOND: u64 = MOST + 1;
-
-/// The number of these digits behind those of a number.
-fn follow(before: u64, digits: &[u8]) -> u64
-    requires small { before ≤ 500000001 }
+/// The number of these digits behind those of a number, where `beyond` stands for all that is greater.
+fn follow(before: u64, digits: &[u8], beyond: u64) -> u64
+    requires small { before ≤ beyond }
+    requires room { beyond ≤ 2 ^ 40 }
     requires digits { All IsAsciiDigit digits.now }
-    ensures value { result ≡ min 500000001 (number_after before digits.now) }
-    ensures small { result ≤ 500000001 }
+    ensures value { result ≡ min beyond (number_after before digits.now) }
+    ensures small { result ≤ beyond }
 {
     let mut sum = before;
     for digit in digits {
-        sum = (10 * sum + u64::from(*digit - b'0')).min(BEYOND);
+        sum = (10 * sum + u64::from(*digit - b'0')).min(beyond);
     }
     sum
 }
 
-fn place(fraction: &[u8], at: usize) -> u8
+/// The digit at a place behind the point, from 0; the digit 0 where none is written.
+pub fn place(fraction: &[u8], at: usize) -> u8
     ensures { result ≡ slice_index_or fraction.now at 48 }
 {
     fraction.get(at).copied().unwrap_or(b'0')
@@ -146,13 +162,14 @@ fn first_places(fraction: &[u8]) -> [u8; 6]
     ]
 }
 
-/// How many nanometres the digits spell, up to one more than the most.
-fn magnitude(whole: &[u8], fraction: &[u8]) -> u64
+/// How many millionths the digits spell, where `beyond` stands for all that is greater.
+pub(crate) fn magnitude(whole: &[u8], fraction: &[u8], beyond: u64) -> u64
+    requires room { beyond ≤ 2 ^ 40 }
     requires whole { All IsAsciiDigit whole.now }
     requires fraction { All IsAsciiDigit fraction.now }
-    ensures { result ≡ min 500000001 (nanometres whole.now fraction.now) }
+    ensures { result ≡ min beyond (nanometres whole.now fraction.now) }
 {
-    follow(follow(0, whole), &first_places(fraction))
+    follow(follow(0, whole, beyond), &first_places(fraction), beyond)
 }
 
 fn signed(negative: bool, magnitude: u64) -> Nm
@@ -181,7 +198,7 @@ pub fn read_mm(text: &[u8]) -> Result<Nm, NumFault>
     if !is_whole_nm(parts.fraction) {
         return Err(NumFault::TooFine);
     }
-    let magnitude = magnitude(parts.whole, parts.fraction);
+    let magnitude = magnitude(parts.whole, parts.fraction, MOST + 1);
     if magnitude > MOST {
         return Err(NumFault::OutOfRange);
     }

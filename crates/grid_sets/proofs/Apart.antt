@@ -5,8 +5,8 @@ use Rattle.std.specs.List.{All}
 use Rattle.std.proofs.lemmas.Int.{ints}
 use Rattle.std.proofs.lemmas.List.Elements.{All-nil, All-cons, All-append}
 use Rattle.plane.specs.Plane.{Bounds, IsTight}
-use Rattle.grid_sets.specs.Rows.{IsOnRun, OnRuns, Ascending, Row, OnRows, IsFilled, Descending}
-use Rattle.grid_sets.specs.Bands.{at, Band, row_of, rows_from, rows_of, AreBandsOf}
+use Rattle.grid_sets.specs.Rows.{IsOnRun, OnRuns, AscendingRuns, Row, OnRows, AreMaximalRuns, Descending}
+use Rattle.grid_sets.specs.Bands.{run_down, Band, row_of, rows_from, rows_of, AreBandsOf}
 use Rattle.grid_sets.specs.Cells.{cell_of, cells_of}
 use Rattle.grid_sets.specs.Points.{HasPoint, AreApart}
 use Rattle.grid_sets.specs.Laws.{CellsApartLaw, CellsTightLaw}
@@ -34,28 +34,28 @@ parted top (r ∷ rs) ts x y d (inl h) i = let l = below_first top r (rs ++ ts) 
 parted top (r ∷ rs) ts x y d (inr h) i = parted (r.y +ℤ pos 1) rs ts x y d.2 h i
 
 -- each row of a band has points
-band_filled : (top : ℤ) (b : Band) (k n i : ℕ) (ts : List Row) → Descending top (rows_from b k n ++ ts) → i < n → IsFilled (map (at (k + i)) b.runs)
+band_filled : (top : ℤ) (b : Band) (k n i : ℕ) (ts : List Row) → Descending top (rows_from b k n ++ ts) → i < n → AreMaximalRuns (map (run_down (k + i)) b.runs)
 band_filled top b k zero i ts d l = absurd (omega arith)
-band_filled top b k (suc n) zero ts d l = let z : k ≡ k + 0 = omega arith in subst (λ (v : ℕ). IsFilled (map (at v) b.runs)) z d.1
+band_filled top b k (suc n) zero ts d l = let z : k ≡ k + 0 = omega arith in subst (λ (v : ℕ). AreMaximalRuns (map (run_down v) b.runs)) z d.1
 band_filled top b k (suc n) (suc i) ts d l =
     let r = band_filled ((row_of b k).y +ℤ pos 1) b (suc k) n i ts d.2 (omega arith) in
     let z : suc k + i ≡ k + suc i = omega arith in
-    subst (λ (v : ℕ). IsFilled (map (at v) b.runs)) z r
+    subst (λ (v : ℕ). AreMaximalRuns (map (run_down v) b.runs)) z r
 
 -- ---- one band
 record AreAscending (k : ℕ) (ss : List Slant) : Type 0 where
   low : ℤ
-  ascending : Ascending low (map (at k) ss)
+  ascending : AscendingRuns low (map (run_down k) ss)
 
-filled_ascending : (k : ℕ) (ss : List Slant) → IsFilled (map (at k) ss) → AreAscending k ss
+filled_ascending : (k : ℕ) (ss : List Slant) → AreMaximalRuns (map (run_down k) ss) → AreAscending k ss
 filled_ascending k [] h = absurd h
 filled_ascending k (s ∷ ss) h = record { low = h.0; ascending = h.1 }
 
 rest_ascending : (k : ℕ) (s : Slant) (ss : List Slant) → AreAscending k (s ∷ ss) → AreAscending k ss
-rest_ascending k s ss a = record { low = (at k s).to +ℤ pos 2; ascending = a.ascending.2 }
+rest_ascending k s ss a = record { low = (run_down k s).to +ℤ pos 2; ascending = a.ascending.2 }
 
-after_first : (k : ℕ) (s : Slant) (ss : List Slant) (x : ℤ) → AreAscending k (s ∷ ss) → IsOnRun (at k s) x → OnRuns (map (at k) ss) x → ⊥
-after_first k s ss x a h i = let l = on_from ((at k s).to +ℤ pos 2) (map (at k) ss) x a.ascending.2 i in omega (arith, ints, h.high)
+after_first : (k : ℕ) (s : Slant) (ss : List Slant) (x : ℤ) → AreAscending k (s ∷ ss) → IsOnRun (run_down k s) x → OnRuns (map (run_down k) ss) x → ⊥
+after_first k s ss x a h i = let l = on_from ((run_down k s).to +ℤ pos 2) (map (run_down k) ss) x a.ascending.2 i in omega (arith, ints, h.high)
 
 row_once : (top y : ℤ) (k j : ℕ) → y ≡ top +ℤ pos k → y ≡ top +ℤ pos j → j ≡ k
 row_once top y k j e f = omega (arith, ints)
@@ -67,10 +67,10 @@ runs_apart top n (s ∷ ss) h = (
   runs_apart top n ss (λ k l. rest_ascending k s ss (h k l)),
 )
   where
-    once : (x y : ℤ) → (k : ℕ) × (k ≤ n) × (y ≡ top +ℤ pos k) × IsOnRun (at k s) x → (k : ℕ) × (k ≤ n) × (y ≡ top +ℤ pos k) × OnRuns (map (at k) ss) x → ⊥
+    once : (x y : ℤ) → (k : ℕ) × (k ≤ n) × (y ≡ top +ℤ pos k) × IsOnRun (run_down k s) x → (k : ℕ) × (k ≤ n) × (y ≡ top +ℤ pos k) × OnRuns (map (run_down k) ss) x → ⊥
     once x y p q =
         let e : q.0 ≡ p.0 = row_once top y p.0 q.0 p.2 q.2 in
-        after_first p.0 s ss x (h p.0 p.1) p.3 (subst (λ (v : ℕ). OnRuns (map (at v) ss) x) e q.3)
+        after_first p.0 s ss x (h p.0 p.1) p.3 (subst (λ (v : ℕ). OnRuns (map (run_down v) ss) x) e q.3)
 
 pub apart_either : (os ps : List Bounds) → AreApart os → AreApart ps → ((x y : ℤ) → HasPoint os x y → HasPoint ps x y → ⊥) → AreApart (os ++ ps)
 apart_either [] ps a b f = b
@@ -83,7 +83,7 @@ rows_filled : (top : ℤ) (b : Band) (rest : List Row) → Descending top (rows_
 rows_filled top b rest d k l =
     let f = band_filled top b 0 (suc b.more) k rest d (omega arith) in
     let z : 0 + k ≡ k = omega arith in
-    filled_ascending k b.runs (subst (λ (v : ℕ). IsFilled (map (at v) b.runs)) z f)
+    filled_ascending k b.runs (subst (λ (v : ℕ). AreMaximalRuns (map (run_down v) b.runs)) z f)
 
 cells_apart : (top : ℤ) (rows : List Row) (bs : List Band) → Descending top rows → AreBandsOf rows bs → AreApart (cells_of bs)
 cells_apart top rows [] d h = tt
@@ -99,7 +99,7 @@ pub cells_apart_law : CellsApartLaw
 cells_apart_law rows bands a h = cells_apart a.top rows bands a.descending h
 
 -- ---- tight
-first_in : (k : ℕ) (s : Slant) (ss : List Slant) → AreAscending k (s ∷ ss) → (at k s).from ≤ℤ (at k s).to
+first_in : (k : ℕ) (s : Slant) (ss : List Slant) → AreAscending k (s ∷ ss) → (run_down k s).from ≤ℤ (run_down k s).to
 first_in k s ss a = a.ascending.1
 
 runs_tight : (top : ℤ) (n : ℕ) (ss : List Slant) → ((k : ℕ) → k ≤ n → AreAscending k ss) → All IsTight (map (cell_of top n) ss)

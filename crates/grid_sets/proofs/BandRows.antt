@@ -3,7 +3,7 @@ use Rattle.std.proofs.Common.{◌≡◌, refl, sym, ap, ◌∙◌, subst, ℕ, z
 use Rattle.std.specs.Prelude.{ℤ}
 use Rattle.std.proofs.lemmas.Int.{ints}
 use Rattle.grid_sets.specs.Rows.{Run, Row}
-use Rattle.grid_sets.specs.Bands.{moved, reach, at, Band, row_of, rows_from, IsMovedAlike, AreMovedAlike}
+use Rattle.grid_sets.specs.Bands.{place_after, reach, run_down, Band, row_of, rows_from, IsMovedAlike, AreMovedAlike}
 use Rattle.grid_sets.specs.declared.Move.{Move}
 use Rattle.grid_sets.specs.declared.Move.TheVariants.{Left, Still, Right}
 use Rattle.grid_sets.specs.declared.End.{End}
@@ -48,14 +48,14 @@ rows_split b k (suc m) n =
 abbrev end_of : ℤ → Move → End
 end_of a m = record { place = a; go = m }
 
-moved_on : (m : Move) (a c : ℤ) (j k i : ℕ) → moved m j a ≡ moved m k c → moved m (j + i) a ≡ moved m (k + i) c
+moved_on : (m : Move) (a c : ℤ) (j k i : ℕ) → place_after m j a ≡ place_after m k c → place_after m (j + i) a ≡ place_after m (k + i) c
 moved_on Left a c j k i h = omega (arith, ints)
 moved_on Still a c j k i h = omega (arith, ints)
 moved_on Right a c j k i h = omega (arith, ints)
 
 end_on : (e f : End) (j k i : ℕ) → e.go ≡ f.go → reach j e ≡ reach k f → reach (j + i) e ≡ reach (k + i) f
 end_on e f j k i g h =
-    let P : Move → Type 0 = λ m. moved m j e.place ≡ reach k f → moved m (j + i) e.place ≡ reach (k + i) f in
+    let P : Move → Type 0 = λ m. place_after m j e.place ≡ reach k f → place_after m (j + i) e.place ≡ reach (k + i) f in
     subst P (sym g) (λ h. moved_on f.go e.place f.place j k i h) h
 
 abbrev run_of : ℤ → ℤ → Run
@@ -64,25 +64,25 @@ run_of a b = record { from = a; to = b }
 run_by : (r t : Run) → r.from ≡ t.from → r.to ≡ t.to → r ≡ t
 run_by r t e f = let h : run_of r.from r.to ≡ run_of t.from t.to = cc in h
 
-slant_on : (s t : Slant) (j k i : ℕ) → IsMovedAlike s t → at j s ≡ at k t → at (j + i) s ≡ at (k + i) t
+slant_on : (s t : Slant) (j k i : ℕ) → IsMovedAlike s t → run_down j s ≡ run_down k t → run_down (j + i) s ≡ run_down (k + i) t
 slant_on s t j k i m h =
     let a : reach j s.from ≡ reach k t.from = ap (λ (r : Run). r.from) h in
     let c : reach j s.to ≡ reach k t.to = ap (λ (r : Run). r.to) h in
-    run_by (at (j + i) s) (at (k + i) t) (end_on s.from t.from j k i m.from a) (end_on s.to t.to j k i m.to c)
+    run_by (run_down (j + i) s) (run_down (k + i) t) (end_on s.from t.from j k i m.from a) (end_on s.to t.to j k i m.to c)
 
-pub slants_on : (ss ts : List Slant) (j k i : ℕ) → AreMovedAlike ss ts → map (at j) ss ≡ map (at k) ts → map (at (j + i)) ss ≡ map (at (k + i)) ts
+pub slants_on : (ss ts : List Slant) (j k i : ℕ) → AreMovedAlike ss ts → map (run_down j) ss ≡ map (run_down k) ts → map (run_down (j + i)) ss ≡ map (run_down (k + i)) ts
 slants_on [] [] j k i m h = refl
 slants_on [] (t ∷ ts) j k i m h = absurd m
 slants_on (s ∷ ss) [] j k i m h = absurd m
 slants_on (s ∷ ss) (t ∷ ts) j k i m h =
-    let a : at j s ≡ at k t = cc in
-    let c : map (at j) ss ≡ map (at k) ts = cc in
-    let d : at (j + i) s ≡ at (k + i) t = slant_on s t j k i m.0 a in
-    let e : map (at (j + i)) ss ≡ map (at (k + i)) ts = slants_on ss ts j k i m.1 c in
+    let a : run_down j s ≡ run_down k t = cc in
+    let c : map (run_down j) ss ≡ map (run_down k) ts = cc in
+    let d : run_down (j + i) s ≡ run_down (k + i) t = slant_on s t j k i m.0 a in
+    let e : map (run_down (j + i)) ss ≡ map (run_down (k + i)) ts = slants_on ss ts j k i m.1 c in
     cc
 
 -- two rows tell the moves
-move_told : (m p : Move) (a c : ℤ) → moved m 0 a ≡ moved p 0 c → moved m 1 a ≡ moved p 1 c → m ≡ p
+move_told : (m p : Move) (a c : ℤ) → place_after m 0 a ≡ place_after p 0 c → place_after m 1 a ≡ place_after p 1 c → m ≡ p
 move_told Left Left a c h i = refl
 move_told Left Still a c h i = absurd (omega (arith, ints))
 move_told Left Right a c h i = absurd (omega (arith, ints))
@@ -93,15 +93,15 @@ move_told Right Left a c h i = absurd (omega (arith, ints))
 move_told Right Still a c h i = absurd (omega (arith, ints))
 move_told Right Right a c h i = refl
 
-pub slants_told : (ss ts : List Slant) → map (at 0) ss ≡ map (at 0) ts → map (at 1) ss ≡ map (at 1) ts → AreMovedAlike ss ts
+pub slants_told : (ss ts : List Slant) → map (run_down 0) ss ≡ map (run_down 0) ts → map (run_down 1) ss ≡ map (run_down 1) ts → AreMovedAlike ss ts
 slants_told [] [] h i = tt
 slants_told [] (t ∷ ts) h i = cc
 slants_told (s ∷ ss) [] h i = cc
 slants_told (s ∷ ss) (t ∷ ts) h i =
-    let a : at 0 s ≡ at 0 t = cc in
-    let b : at 1 s ≡ at 1 t = cc in
-    let c : map (at 0) ss ≡ map (at 0) ts = cc in
-    let d : map (at 1) ss ≡ map (at 1) ts = cc in (
+    let a : run_down 0 s ≡ run_down 0 t = cc in
+    let b : run_down 1 s ≡ run_down 1 t = cc in
+    let c : map (run_down 0) ss ≡ map (run_down 0) ts = cc in
+    let d : map (run_down 1) ss ≡ map (run_down 1) ts = cc in (
       record {
         from = move_told s.from.go t.from.go s.from.place t.from.place (ap (λ (r : Run). r.from) a) (ap (λ (r : Run). r.from) b);
         to = move_told s.to.go t.to.go s.to.place t.to.place (ap (λ (r : Run). r.to) a) (ap (λ (r : Run). r.to) b);

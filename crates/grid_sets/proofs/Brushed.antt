@@ -4,8 +4,8 @@ use Rattle.std.specs.Prelude.{ℤ}
 use Rattle.std.specs.List.{All}
 use Rattle.std.proofs.lemmas.List.Elements.{All-head, All-tail}
 use Rattle.plane.specs.Plane.{Bounds, PlanePoint, Within, In, IsTight, ball_of, moved}
-use Rattle.brush.specs.Brush.{IsBrushed}
-use Rattle.brush.proofs.Brushed.{brush_law}
+use Rattle.grid_sets.specs.Brush.{IsBrushed}
+use Rattle.grid_sets.proofs.CellBrushed.{brush_law}
 use Rattle.grid_sets.specs.Cells.{cells_of, OnBrushed, IsBrushedByRows}
 use Rattle.grid_sets.specs.Points.{HasPoint}
 use Rattle.grid_sets.specs.Laws.{CellsBrushLaw}

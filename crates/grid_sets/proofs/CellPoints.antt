@@ -3,7 +3,7 @@ use Rattle.std.proofs.Common.{◌≡◌, sym, subst, ◌⊎◌, inl, inr, ℕ, s
 use Rattle.std.specs.Prelude.{ℤ, pos, ◌+ℤ◌, ◌↔◌}
 use Rattle.plane.specs.Plane.{Bounds}
 use Rattle.grid_sets.specs.Rows.{Row, OnRuns, OnRows}
-use Rattle.grid_sets.specs.Bands.{at, Band, rows_of}
+use Rattle.grid_sets.specs.Bands.{run_down, Band, rows_of}
 use Rattle.grid_sets.specs.Cells.{cell_of, cells_of}
 use Rattle.grid_sets.specs.Points.{HasPoint}
 use Rattle.grid_sets.specs.Laws.{CellPointsLaw}
@@ -11,12 +11,12 @@ use Rattle.grid_sets.specs.declared.Slant.{Slant}
 use Rattle.grid_sets.proofs.Cells.{run_in_cell, cell_row}
 use Rattle.grid_sets.proofs.OnBands.{on_band, band_on, on_rows}
 
-pub runs_cell : (top : ℤ) (n k : ℕ) (ss : List Slant) (x : ℤ) → k ≤ n → OnRuns (map (at k) ss) x → HasPoint (map (cell_of top n) ss) x (top +ℤ pos k)
+pub runs_cell : (top : ℤ) (n k : ℕ) (ss : List Slant) (x : ℤ) → k ≤ n → OnRuns (map (run_down k) ss) x → HasPoint (map (cell_of top n) ss) x (top +ℤ pos k)
 runs_cell top n k [] x l h = absurd h
 runs_cell top n k (s ∷ ss) x l (inl h) = inl (run_in_cell top n k s x l h)
 runs_cell top n k (s ∷ ss) x l (inr h) = inr (runs_cell top n k ss x l h)
 
-pub cell_runs : (top : ℤ) (n : ℕ) (ss : List Slant) (x y : ℤ) → HasPoint (map (cell_of top n) ss) x y → (k : ℕ) × (k ≤ n) × (y ≡ top +ℤ pos k) × OnRuns (map (at k) ss) x
+pub cell_runs : (top : ℤ) (n : ℕ) (ss : List Slant) (x y : ℤ) → HasPoint (map (cell_of top n) ss) x y → (k : ℕ) × (k ≤ n) × (y ≡ top +ℤ pos k) × OnRuns (map (run_down k) ss) x
 cell_runs top n [] x y h = absurd h
 cell_runs top n (s ∷ ss) x y (inl h) = let r = cell_row top n s x y h in (r.0, r.1, r.2, inl r.3)
 cell_runs top n (s ∷ ss) x y (inr h) = let r = cell_runs top n ss x y h in (r.0, r.1, r.2, inr r.3)
@@ -35,7 +35,7 @@ band_points b x y = (
   λ h. let r = cell_runs b.top b.more b.runs x y h in band_on b 0 (suc b.more) r.0 x y (omega arith) (omega (arith, r.1)) r.2 r.3,
 )
   where
-    there : (i : ℕ) × (0 ≤ i) × (i < 0 + suc b.more) × (y ≡ b.top +ℤ pos i) × OnRuns (map (at i) b.runs) x → HasPoint (map (cell_of b.top b.more) b.runs) x y
+    there : (i : ℕ) × (0 ≤ i) × (i < 0 + suc b.more) × (y ≡ b.top +ℤ pos i) × OnRuns (map (run_down i) b.runs) x → HasPoint (map (cell_of b.top b.more) b.runs) x y
     there r = subst (λ (v : ℤ). HasPoint (map (cell_of b.top b.more) b.runs) x v) (sym r.3) (runs_cell b.top b.more r.0 b.runs x (omega (arith, r.2)) r.4)
 
 pub cells_points : CellPointsLaw

@@ -1,11 +1,11 @@
 -- A finite set has one number of points.
 use Rattle.std.proofs.Common.{◌≡◌, refl, sym, subst, ◌∙◌, ◌⊎◌, inl, inr, ℕ, ◌+◌, ◌≤◌, List, [], ◌∷◌, ◌++◌, length, length-append, arith}
 use Rattle.std.specs.Prelude.{ℤ, ◌↔◌}
-use Rattle.grid_sets.specs.Points.{Spot, IsListed, AreDistinct, IsCount}
+use Rattle.grid_sets.specs.Points.{GridPoint, IsListed, AreDistinct, IsCount}
 use Rattle.grid_sets.specs.Laws.{CountLaw}
 
 -- ---- lists of points
-pub listed_either : (ps qs : List Spot) (x y : ℤ) → IsListed (ps ++ qs) x y ↔ (IsListed ps x y ⊎ IsListed qs x y)
+pub listed_either : (ps qs : List GridPoint) (x y : ℤ) → IsListed (ps ++ qs) x y ↔ (IsListed ps x y ⊎ IsListed qs x y)
 listed_either [] qs x y = (λ h. inr h, λ h. elim h [ inl e ↦ absurd e | inr k ↦ k ])
 listed_either (p ∷ ps) qs x y =
     let i = listed_either ps qs x y in (
@@ -13,7 +13,7 @@ listed_either (p ∷ ps) qs x y =
       λ h. elim h [ inl k ↦ elim k [ inl w ↦ inl w | inr m ↦ inr (i.1 (inl m)) ] | inr m ↦ inr (i.1 (inr m)) ],
     )
 
-pub distinct_either : (ps qs : List Spot) → AreDistinct ps → AreDistinct qs → ((x y : ℤ) → IsListed ps x y → IsListed qs x y → ⊥) → AreDistinct (ps ++ qs)
+pub distinct_either : (ps qs : List GridPoint) → AreDistinct ps → AreDistinct qs → ((x y : ℤ) → IsListed ps x y → IsListed qs x y → ⊥) → AreDistinct (ps ++ qs)
 distinct_either [] qs a b f = b
 distinct_either (p ∷ ps) qs a b f = (
   λ h. elim ((listed_either ps qs p.x p.y).0 h) [ inl m ↦ a.0 m | inr m ↦ f p.x p.y (inl (refl, refl)) m ],
@@ -21,11 +21,11 @@ distinct_either (p ∷ ps) qs a b f = (
 )
 
 -- the list without one of the places where a listed point stands
-record IsTakenOut (x y : ℤ) (qs rest : List Spot) : Type 0 where
+record IsTakenOut (x y : ℤ) (qs rest : List GridPoint) : Type 0 where
   short : length qs ≡ length rest + 1
   kept : (u v : ℤ) → IsListed qs u v → ((u ≡ x) × (v ≡ y)) ⊎ IsListed rest u v
 
-take_out : (qs : List Spot) (x y : ℤ) → IsListed qs x y → (rest : List Spot) × IsTakenOut x y qs rest
+take_out : (qs : List GridPoint) (x y : ℤ) → IsListed qs x y → (rest : List GridPoint) × IsTakenOut x y qs rest
 take_out [] x y h = absurd h
 take_out (q ∷ qs) x y (inl h) = (qs, record { short = omega arith; kept = λ u v k. elim k [ inl e ↦ inl (e.0 ∙ sym h.0, e.1 ∙ sym h.1) | inr m ↦ inr m ] })
 take_out (q ∷ qs) x y (inr h) =
@@ -38,7 +38,7 @@ take_out (q ∷ qs) x y (inr h) =
     )
 
 -- points that stand once each and all stand in the other list are no more than the other list has
-pub no_more : (ps qs : List Spot) → AreDistinct ps → ((x y : ℤ) → IsListed ps x y → IsListed qs x y) → length ps ≤ length qs
+pub no_more : (ps qs : List GridPoint) → AreDistinct ps → ((x y : ℤ) → IsListed ps x y → IsListed qs x y) → length ps ≤ length qs
 no_more [] qs d h = omega arith
 no_more (p ∷ ps) qs d h =
     let t = take_out qs p.x p.y (h p.x p.y (inl (refl, refl))) in
@@ -49,7 +49,7 @@ no_more (p ∷ ps) qs d h =
     here : (x y : ℤ) → x ≡ p.x → y ≡ p.y → IsListed ps x y → ⊥
     here x y e f k = d.0 (subst (λ (v : ℤ). IsListed ps p.x v) f (subst (λ (u : ℤ). IsListed ps u y) e k))
 
-    others : (rest : List Spot) (x y : ℤ) → IsListed ps x y → ((x ≡ p.x) × (y ≡ p.y)) ⊎ IsListed rest x y → IsListed rest x y
+    others : (rest : List GridPoint) (x y : ℤ) → IsListed ps x y → ((x ≡ p.x) × (y ≡ p.y)) ⊎ IsListed rest x y → IsListed rest x y
     others rest x y k (inl e) = absurd (here x y e.0 e.1 k)
     others rest x y k (inr m) = m
 

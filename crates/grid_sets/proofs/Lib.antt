@@ -1,3 +1,5 @@
+pub mod GridPoints
+pub mod CellBrushed
 pub mod Unique
 pub mod BandRows
 pub mod OnBands

@@ -5,13 +5,13 @@ use Rattle.std.proofs.lemmas.Int.{ints, by_lt_z}
 use Rattle.std.proofs.lemmas.Bool.{cases_lt}
 use Rattle.plane.specs.Plane.{Bounds, Within, IsTight}
 use Rattle.grid_sets.proofs.Counting.{listed_either, distinct_either}
-use Rattle.grid_sets.specs.Points.{Spot, IsListed, AreDistinct, AreSpotsOf, IsCount, triangle}
+use Rattle.grid_sets.specs.Points.{GridPoint, IsListed, AreDistinct, AreSpotsOf, IsCount, triangle}
 
 -- ---- n points of a row, from x on
-abbrev spot : ℤ → ℤ → Spot
+abbrev spot : ℤ → ℤ → GridPoint
 spot x y = record { x = x; y = y }
 
-unfoldable line : ℤ → ℤ → ℕ → List Spot
+unfoldable line : ℤ → ℤ → ℕ → List GridPoint
 line x y zero = []
 line x y (suc n) = spot x y ∷ line (x +ℤ pos 1) y n
 
@@ -44,7 +44,7 @@ line_length x y zero = refl
 line_length x y (suc n) = let r : length (line (x +ℤ pos 1) y n) ≡ n = line_length (x +ℤ pos 1) y n in omega arith
 
 -- ---- n rows from row k on, each from left to so many points further
-unfoldable area : (ℕ → ℤ) → (ℕ → ℕ) → ℤ → ℕ → ℕ → List Spot
+unfoldable area : (ℕ → ℤ) → (ℕ → ℕ) → ℤ → ℕ → ℕ → List GridPoint
 area left wide top k zero = []
 area left wide top k (suc n) = line (left k) (top +ℤ pos k) (wide k) ++ area left wide top (suc k) n
 

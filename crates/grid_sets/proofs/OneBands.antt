@@ -4,7 +4,7 @@ use Rattle.std.specs.Prelude.{ℤ, pos, ◌+ℤ◌}
 use Rattle.std.proofs.lemmas.Int.{ints}
 use Rattle.std.proofs.lemmas.Bool.{cases_lt}
 use Rattle.grid_sets.specs.Rows.{Run, Row}
-use Rattle.grid_sets.specs.Bands.{moved, reach, at, Band, row_of, rows_from, rows_of, AreMovedAlike, AreStill, IsJoining, Ends, AreBandsOf}
+use Rattle.grid_sets.specs.Bands.{place_after, reach, run_down, Band, row_of, rows_from, rows_of, AreMovedAlike, AreStill, IsJoining, BandEnds, AreBandsOf}
 use Rattle.grid_sets.specs.Laws.{BandsLaw}
 use Rattle.grid_sets.specs.declared.Move.{Move}
 use Rattle.grid_sets.specs.declared.Move.TheVariants.{Left, Still, Right}
@@ -53,12 +53,12 @@ later_alike : (k : ℕ) (ss : List Slant) → AreMovedAlike (map (later k) ss) s
 later_alike k [] = tt
 later_alike k (s ∷ ss) = (record { from = refl; to = refl }, later_alike k ss)
 
-moved_zero : (m : Move) (a : ℤ) → moved m 0 a ≡ a
+moved_zero : (m : Move) (a : ℤ) → place_after m 0 a ≡ a
 moved_zero Left a = omega (arith, ints)
 moved_zero Still a = omega (arith, ints)
 moved_zero Right a = omega (arith, ints)
 
-moved_one : (m : Move) (k : ℕ) (a : ℤ) → moved m 1 (moved m k a) ≡ moved m (suc k) a
+moved_one : (m : Move) (k : ℕ) (a : ℤ) → place_after m 1 (place_after m k a) ≡ place_after m (suc k) a
 moved_one Left k a = omega (arith, ints)
 moved_one Still k a = omega (arith, ints)
 moved_one Right k a = omega (arith, ints)
@@ -69,17 +69,17 @@ run_by a b = record { from = a; to = b }
 run_same : (a b c d : ℤ) → a ≡ c → b ≡ d → run_by a b ≡ run_by c d
 run_same a b c d e f = cc
 
-later_zero : (k : ℕ) (ss : List Slant) → map (at 0) (map (later k) ss) ≡ map (at k) ss
+later_zero : (k : ℕ) (ss : List Slant) → map (run_down 0) (map (later k) ss) ≡ map (run_down k) ss
 later_zero k [] = refl
 later_zero k (s ∷ ss) =
-    let a : at 0 (later k s) ≡ at k s = run_same (moved s.from.go 0 (reach k s.from)) (moved s.to.go 0 (reach k s.to)) (reach k s.from) (reach k s.to) (moved_zero s.from.go (reach k s.from)) (moved_zero s.to.go (reach k s.to)) in
+    let a : run_down 0 (later k s) ≡ run_down k s = run_same (place_after s.from.go 0 (reach k s.from)) (place_after s.to.go 0 (reach k s.to)) (reach k s.from) (reach k s.to) (moved_zero s.from.go (reach k s.from)) (moved_zero s.to.go (reach k s.to)) in
     let r = later_zero k ss in
     cc
 
-later_one : (k : ℕ) (ss : List Slant) → map (at 1) (map (later k) ss) ≡ map (at (suc k)) ss
+later_one : (k : ℕ) (ss : List Slant) → map (run_down 1) (map (later k) ss) ≡ map (run_down (suc k)) ss
 later_one k [] = refl
 later_one k (s ∷ ss) =
-    let a : at 1 (later k s) ≡ at (suc k) s = run_same (moved s.from.go 1 (reach k s.from)) (moved s.to.go 1 (reach k s.to)) (reach (suc k) s.from) (reach (suc k) s.to) (moved_one s.from.go k s.from.place) (moved_one s.to.go k s.to.place) in
+    let a : run_down 1 (later k s) ≡ run_down (suc k) s = run_same (place_after s.from.go 1 (reach k s.from)) (place_after s.to.go 1 (reach k s.to)) (reach (suc k) s.from) (reach (suc k) s.to) (moved_one s.from.go k s.from.place) (moved_one s.to.go k s.to.place) in
     let r = later_one k ss in
     cc
 
@@ -87,7 +87,7 @@ later_one k (s ∷ ss) =
 row_top : (b c : Band) (i : ℕ) → row_of b i ≡ row_of c i → b.top ≡ c.top
 row_top b c i e = let d : b.top +ℤ pos i ≡ c.top +ℤ pos i = ap (λ (r : Row). r.y) e in omega (arith, ints)
 
-row_runs : (b c : Band) (i : ℕ) → row_of b i ≡ row_of c i → map (at i) b.runs ≡ map (at i) c.runs
+row_runs : (b c : Band) (i : ℕ) → row_of b i ≡ row_of c i → map (run_down i) b.runs ≡ map (run_down i) c.runs
 row_runs b c i e = ap (λ (r : Row). r.runs) e
 
 -- the shorter one would take the next row
@@ -104,11 +104,11 @@ joins b c h =
           (slants_told c.runs b.runs (sym (row_runs b c 0 (h 0 (omega arith)))) (sym (row_runs b c 1 (h 1 one))));
     }
 
-taken : (b c : Band) (rs ts : List Row) → Ends b rs → rows_of b ++ rs ≡ rows_of c ++ ts → b.more < c.more → ⊥
+taken : (b c : Band) (rs ts : List Row) → BandEnds b rs → rows_of b ++ rs ≡ rows_of c ++ ts → b.more < c.more → ⊥
 taken b c rs ts f e l =
     let r = next_row b c 0 (suc b.more) (suc c.more) rs ts e (omega arith) in
     let z : 0 + suc b.more ≡ suc b.more = omega arith in
-    let p : Ends b (row_of c (0 + suc b.more) ∷ r.0) = subst (Ends b) r.1 f in
+    let p : BandEnds b (row_of c (0 + suc b.more) ∷ r.0) = subst (BandEnds b) r.1 f in
     subst (λ (v : ℕ). IsJoining b (row_of c v) → ⊥) z p (joins b c (λ i m. zeroth i (row_at b c 0 (suc b.more) (suc c.more) i rs ts e (omega arith) (omega arith))))
   where
     zeroth : (i : ℕ) → row_of b (0 + i) ≡ row_of c (0 + i) → row_of b i ≡ row_of c i
@@ -130,25 +130,25 @@ made_slant e f = record { from = e; to = f }
 slant_same : (s t : Slant) → s.from ≡ t.from → s.to ≡ t.to → s ≡ t
 slant_same s t e f = let h : made_slant s.from s.to ≡ made_slant t.from t.to = cc in h
 
-slants_same : (ss ts : List Slant) → AreMovedAlike ss ts → map (at 0) ss ≡ map (at 0) ts → ss ≡ ts
+slants_same : (ss ts : List Slant) → AreMovedAlike ss ts → map (run_down 0) ss ≡ map (run_down 0) ts → ss ≡ ts
 slants_same [] [] m e = refl
 slants_same [] (t ∷ ts) m e = absurd m
 slants_same (s ∷ ss) [] m e = absurd m
 slants_same (s ∷ ss) (t ∷ ts) m e =
-    let a : at 0 s ≡ at 0 t = cc in
-    let d : map (at 0) ss ≡ map (at 0) ts = cc in
+    let a : run_down 0 s ≡ run_down 0 t = cc in
+    let d : map (run_down 0) ss ≡ map (run_down 0) ts = cc in
     let f = end_told s.from t.from m.0.from (ap (λ (r : Run). r.from) a) in
     let g = end_told s.to t.to m.0.to (ap (λ (r : Run). r.to) a) in
     let h = slant_same s t f g in
     let r = slants_same ss ts m.1 d in
     cc
 
-still_alike : (ss ts : List Slant) → AreStill ss → AreStill ts → map (at 0) ss ≡ map (at 0) ts → AreMovedAlike ss ts
+still_alike : (ss ts : List Slant) → AreStill ss → AreStill ts → map (run_down 0) ss ≡ map (run_down 0) ts → AreMovedAlike ss ts
 still_alike [] [] a b e = tt
 still_alike [] (t ∷ ts) a b e = cc
 still_alike (s ∷ ss) [] a b e = cc
 still_alike (s ∷ ss) (t ∷ ts) a b e =
-    let d : map (at 0) ss ≡ map (at 0) ts = cc in
+    let d : map (run_down 0) ss ≡ map (run_down 0) ts = cc in
     (record { from = a.0 ∙ sym b.0; to = a.1 ∙ sym b.1 }, still_alike ss ts a.2 b.2 d)
 
 abbrev made_band : ℤ → ℕ → List Slant → Band
@@ -174,7 +174,7 @@ first_same b c rs ts e m s t =
 rests_same : (b c : Band) (rs ts : List Row) → b ≡ c → rows_of b ++ rs ≡ rows_of c ++ ts → rs ≡ ts
 rests_same b c rs ts e h = same_rest b b 0 (suc b.more) rs ts (subst (λ (v : Band). rows_of b ++ rs ≡ rows_of v ++ ts) (sym e) h)
 
-mores_same : (b c : Band) (rs ts : List Row) → Ends b rs → Ends c ts → rows_of b ++ rs ≡ rows_of c ++ ts → b.more ≡ c.more
+mores_same : (b c : Band) (rs ts : List Row) → BandEnds b rs → BandEnds c ts → rows_of b ++ rs ≡ rows_of c ++ ts → b.more ≡ c.more
 mores_same b c rs ts f g e = elim (cases_lt b.more c.more) [
   | inl l ↦ absurd (taken b c rs ts f e l)
   | inr l ↦ elim (cases_lt c.more b.more) [

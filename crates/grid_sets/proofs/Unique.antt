@@ -2,38 +2,38 @@
 use Rattle.std.proofs.Common.{◌≡◌, refl, sym, inl, inr, List, [], ◌∷◌, arith}
 use Rattle.std.specs.Prelude.{ℤ, pos, ◌+ℤ◌, ◌≤ℤ◌}
 use Rattle.std.proofs.lemmas.Int.{ints, by_lt_z}
-use Rattle.grid_sets.specs.Rows.{Run, IsOnRun, OnRuns, Ascending, Row, OnRows, IsFilled, Descending}
-use Rattle.grid_sets.specs.Laws.{RowsLaw, RunsLaw}
+use Rattle.grid_sets.specs.Rows.{Run, IsOnRun, OnRuns, AscendingRuns, Row, OnRows, AreMaximalRuns, Descending}
+use Rattle.grid_sets.specs.Laws.{OneRowsLaw, OneRunsLaw}
 
-pub on_from : (low : ℤ) (rs : List Run) (x : ℤ) → Ascending low rs → OnRuns rs x → low ≤ℤ x
+pub on_from : (low : ℤ) (rs : List Run) (x : ℤ) → AscendingRuns low rs → OnRuns rs x → low ≤ℤ x
 on_from low [] x a h = absurd h
 on_from low (r ∷ rs) x a (inl h) = omega (arith, ints)
 on_from low (r ∷ rs) x a (inr h) = let l = on_from (r.to +ℤ pos 2) rs x a.2 h in omega (arith, ints)
 
-first : (low : ℤ) (r : Run) (rs : List Run) → Ascending low (r ∷ rs) → IsOnRun r r.from
+first : (low : ℤ) (r : Run) (rs : List Run) → AscendingRuns low (r ∷ rs) → IsOnRun r r.from
 first low r rs a = record { low = omega (arith, ints); high = a.1 }
 
-starts : (low : ℤ) (r : Run) (rs : List Run) (x : ℤ) → Ascending low (r ∷ rs) → OnRuns (r ∷ rs) x → r.from ≤ℤ x
+starts : (low : ℤ) (r : Run) (rs : List Run) (x : ℤ) → AscendingRuns low (r ∷ rs) → OnRuns (r ∷ rs) x → r.from ≤ℤ x
 starts low r rs x a (inl h) = h.low
 starts low r rs x a (inr h) = let l = on_from (r.to +ℤ pos 2) rs x a.2 h in omega (arith, ints)
 
 -- the number after a run is missing
-missing : (low : ℤ) (r : Run) (rs : List Run) → Ascending low (r ∷ rs) → OnRuns (r ∷ rs) (r.to +ℤ pos 1) → ⊥
+missing : (low : ℤ) (r : Run) (rs : List Run) → AscendingRuns low (r ∷ rs) → OnRuns (r ∷ rs) (r.to +ℤ pos 1) → ⊥
 missing low r rs a (inl h) = omega (arith, ints)
 missing low r rs a (inr h) = let l = on_from (r.to +ℤ pos 2) rs (r.to +ℤ pos 1) a.2 h in omega (arith, ints)
 
-from_same : (l m : ℤ) (r t : Run) (rs ts : List Run) → Ascending l (r ∷ rs) → Ascending m (t ∷ ts)
+from_same : (l m : ℤ) (r t : Run) (rs ts : List Run) → AscendingRuns l (r ∷ rs) → AscendingRuns m (t ∷ ts)
     → ((x : ℤ) → OnRuns (r ∷ rs) x → OnRuns (t ∷ ts) x) → t.from ≤ℤ r.from
 from_same l m r t rs ts a b f = starts m t ts r.from b (f r.from (inl (first l r rs a)))
 
-to_same : (l m : ℤ) (r t : Run) (rs ts : List Run) → r.from ≡ t.from → Ascending l (r ∷ rs) → Ascending m (t ∷ ts)
+to_same : (l m : ℤ) (r t : Run) (rs ts : List Run) → r.from ≡ t.from → AscendingRuns l (r ∷ rs) → AscendingRuns m (t ∷ ts)
     → ((x : ℤ) → OnRuns (t ∷ ts) x → OnRuns (r ∷ rs) x) → t.to ≤ℤ r.to
 to_same l m r t rs ts e a b g =
     by_lt_z {P = t.to ≤ℤ r.to} r.to t.to
     (λ h. absurd (missing l r rs a (g (r.to +ℤ pos 1) (inl (record { low = omega (arith, ints); high = omega (arith, ints) })))))
     (λ h. h)
 
-tail_in : (l m : ℤ) (r t : Run) (rs ts : List Run) → r.to ≡ t.to → Ascending l (r ∷ rs)
+tail_in : (l m : ℤ) (r t : Run) (rs ts : List Run) → r.to ≡ t.to → AscendingRuns l (r ∷ rs)
     → ((x : ℤ) → OnRuns (r ∷ rs) x → OnRuns (t ∷ ts) x) → (x : ℤ) → OnRuns rs x → OnRuns ts x
 tail_in l m r t rs ts e a f x h = elim (f x (inr h)) [
   | inl k ↦ let q = on_from (r.to +ℤ pos 2) rs x a.2 h in absurd (omega (arith, ints))
@@ -49,7 +49,7 @@ run_of a b = record { from = a; to = b }
 run_same : (r t : Run) → r.from ≡ t.from → r.to ≡ t.to → r ≡ t
 run_same r t e f = let h : run_of r.from r.to ≡ run_of t.from t.to = cc in h
 
-pub runs_same : (l m : ℤ) (rs ts : List Run) → Ascending l rs → Ascending m ts
+pub runs_same : (l m : ℤ) (rs ts : List Run) → AscendingRuns l rs → AscendingRuns m ts
     → ((x : ℤ) → OnRuns rs x → OnRuns ts x) → ((x : ℤ) → OnRuns ts x → OnRuns rs x) → rs ≡ ts
 runs_same l m [] [] a b f g = refl
 runs_same l m [] (t ∷ ts) a b f g = absurd (g t.from (inl (first m t ts b)))
@@ -67,7 +67,7 @@ on_top top [] x y d h = absurd h
 on_top top (r ∷ rs) x y d (inl h) = omega (arith, ints)
 on_top top (r ∷ rs) x y d (inr h) = let l = on_top (r.y +ℤ pos 1) rs x y d.2 h in omega (arith, ints)
 
-some_on : (rs : List Run) → IsFilled rs → (x : ℤ) × OnRuns rs x
+some_on : (rs : List Run) → AreMaximalRuns rs → (x : ℤ) × OnRuns rs x
 some_on [] h = absurd h
 some_on (r ∷ rs) h = (r.from, inl (first h.0 r rs h.1))
 
@@ -94,7 +94,7 @@ rest_in l r t rs ts e a f x y h = elim (f x y (inr h)) [
   | inr k ↦ k
 ]
 
-filled_same : (rs ts : List Run) → IsFilled rs → IsFilled ts
+filled_same : (rs ts : List Run) → AreMaximalRuns rs → AreMaximalRuns ts
     → ((x : ℤ) → OnRuns rs x → OnRuns ts x) → ((x : ℤ) → OnRuns ts x → OnRuns rs x) → rs ≡ ts
 filled_same [] ts a b f g = absurd a
 filled_same (r ∷ rs) [] a b f g = absurd b
@@ -119,8 +119,8 @@ rows_same l m (r ∷ rs) (t ∷ ts) a b f g =
     cc
 
 -- two lists of rows with the same points
-pub rows_law : RowsLaw
+pub rows_law : OneRowsLaw
 rows_law rows others a b h = rows_same a.top b.top rows others a.descending b.descending (λ x y. (h x y).0) (λ x y. (h x y).1)
 
-pub runs_law : RunsLaw
+pub runs_law : OneRunsLaw
 runs_law low least runs others a b h = runs_same low least runs others a b (λ x. (h x).0) (λ x. (h x).1)

@@ -7,18 +7,18 @@ use Rattle.grid_sets.specs.declared.End.{End}
 use Rattle.grid_sets.specs.declared.Slant.{Slant}
 
 -- where a number is after k moves
-abbrev pub moved : Move → ℕ → ℤ → ℤ
-moved Left k a = a -ℤ pos k
-moved Still k a = a
-moved Right k a = a +ℤ pos k
+abbrev pub place_after : Move → ℕ → ℤ → ℤ
+place_after Left k a = a -ℤ pos k
+place_after Still k a = a
+place_after Right k a = a +ℤ pos k
 
 -- where an end is, k rows below the first one
 abbrev pub reach : ℕ → End → ℤ
-reach k e = moved e.go k e.place
+reach k e = place_after e.go k e.place
 
 -- the run, k rows below the first one
-abbrev pub at : ℕ → Slant → Run
-at k s = record { from = reach k s.from; to = reach k s.to }
+abbrev pub run_down : ℕ → Slant → Run
+run_down k s = record { from = reach k s.from; to = reach k s.to }
 
 -- A band: its first row's y, how many more rows it has, and its runs. Each row below the first one is at the next y,
 -- and has the runs of the row above with their ends moved.
@@ -33,7 +33,7 @@ pub record Band : Type 0 where
 
 -- its row k below the first one
 abbrev pub row_of : Band → ℕ → Row
-row_of b k = record { y = b.top +ℤ pos k; runs = map (at k) b.runs }
+row_of b k = record { y = b.top +ℤ pos k; runs = map (run_down k) b.runs }
 
 -- n rows of the band, from row k on
 abbrev pub rows_from : Band → ℕ → ℕ → List Row
@@ -66,14 +66,14 @@ AreStill (s ∷ ss) = (s.from.go ≡ Still) × (s.to.go ≡ Still) × AreStill s
 pub record IsJoining (b : Band) (r : Row) : Type 0 where
   pub next : r.y ≡ b.top +ℤ pos (suc b.more)
   pub steps : List Slant
-  pub last : map (at 0) steps ≡ map (at b.more) b.runs
-  pub new : map (at 1) steps ≡ r.runs
+  pub last : map (run_down 0) steps ≡ map (run_down b.more) b.runs
+  pub new : map (run_down 1) steps ≡ r.runs
   pub alike : 1 ≤ b.more → AreMovedAlike steps b.runs
 
 -- no row is left, or the next one doesn't join
-abbrev pub Ends : Band → List Row → Type 0
-Ends b [] = Unit {0}
-Ends b (r ∷ rs) = ¬ (IsJoining b r)
+abbrev pub BandEnds : Band → List Row → Type 0
+BandEnds b [] = Unit {0}
+BandEnds b (r ∷ rs) = ¬ (IsJoining b r)
 
 -- They are the greedy bands of the rows, from the top: the first row begins a band, a band takes the rows that follow as
 -- long as they join it, and the next row begins a new one. A band's moves are those from its first row to its second
@@ -81,4 +81,4 @@ Ends b (r ∷ rs) = ¬ (IsJoining b r)
 abbrev pub AreBandsOf : List Row → List Band → Type 0
 AreBandsOf rows [] = rows ≡ []
 AreBandsOf rows (b ∷ bs) =
-    (rest : List Row) × (rows ≡ rows_of b ++ rest) × Ends b rest × AreBandsOf rest bs × (b.more ≡ 0 → AreStill b.runs)
+    (rest : List Row) × (rows ≡ rows_of b ++ rest) × BandEnds b rest × AreBandsOf rest bs × (b.more ≡ 0 → AreStill b.runs)

@@ -2,18 +2,18 @@
 use Rattle.std.specs.Prelude.{◌≡◌, ◌↔◌, ℕ, ◌≤◌, List, length, ℤ}
 use Rattle.std.specs.List.{All}
 use Rattle.plane.specs.Plane.{PlanePoint, IsTight}
-use Rattle.grid_sets.specs.Rows.{Run, OnRuns, Ascending, Row, OnRows, AreRows}
+use Rattle.grid_sets.specs.Rows.{Run, OnRuns, AscendingRuns, Row, OnRows, AreRows}
 use Rattle.grid_sets.specs.Bands.{Band, AreBandsOf}
 use Rattle.grid_sets.specs.Cells.{cells_of, OnBrushed, IsBrushedByRows}
-use Rattle.grid_sets.specs.Points.{HasPoint, AreApart, Spot, IsListed, AreDistinct}
+use Rattle.grid_sets.specs.Points.{HasPoint, AreApart, GridPoint, IsListed, AreDistinct}
 
 -- two lists of rows with the same points are the same: a finite set has one list of rows
-abbrev pub RowsLaw : Type 0
-RowsLaw = (rows others : List Row) → AreRows rows → AreRows others → ((x y : ℤ) → OnRows rows x y ↔ OnRows others x y) → rows ≡ others
+abbrev pub OneRowsLaw : Type 0
+OneRowsLaw = (rows others : List Row) → AreRows rows → AreRows others → ((x y : ℤ) → OnRows rows x y ↔ OnRows others x y) → rows ≡ others
 
 -- two lists of maximal runs with the same points are the same
-abbrev pub RunsLaw : Type 0
-RunsLaw = (low least : ℤ) (runs others : List Run) → Ascending low runs → Ascending least others → ((x : ℤ) → OnRuns runs x ↔ OnRuns others x) → runs ≡ others
+abbrev pub OneRunsLaw : Type 0
+OneRunsLaw = (low least : ℤ) (runs others : List Run) → AscendingRuns low runs → AscendingRuns least others → ((x : ℤ) → OnRuns runs x ↔ OnRuns others x) → runs ≡ others
 
 -- rows have one list of greedy bands
 abbrev pub BandsLaw : Type 0
@@ -40,4 +40,4 @@ CellsBrushLaw =
 -- two lists of the same points, each once, are equally long
 abbrev pub CountLaw : Type 0
 CountLaw =
-    (ps qs : List Spot) → AreDistinct ps → AreDistinct qs → ((x y : ℤ) → IsListed ps x y ↔ IsListed qs x y) → length ps ≡ length qs
+    (ps qs : List GridPoint) → AreDistinct ps → AreDistinct qs → ((x y : ℤ) → IsListed ps x y ↔ IsListed qs x y) → length ps ≡ length qs

@@ -13,28 +13,28 @@ AreApart [] = Unit {0}
 AreApart (o ∷ os) = ((x y : ℤ) → Within o x y → HasPoint os x y → ⊥) × AreApart os
 
 -- a grid point
-pub record Spot : Type 0 where
+pub record GridPoint : Type 0 where
   pub x : ℤ
   pub y : ℤ
 
 -- the list has the grid point
-abbrev pub IsListed : List Spot → ℤ → ℤ → Type 0
+abbrev pub IsListed : List GridPoint → ℤ → ℤ → Type 0
 IsListed [] x y = ⊥
 IsListed (p ∷ ps) x y = ((x ≡ p.x) × (y ≡ p.y)) ⊎ IsListed ps x y
 
 -- no point stands twice in the list
-abbrev pub AreDistinct : List Spot → Type 0
+abbrev pub AreDistinct : List GridPoint → Type 0
 AreDistinct [] = Unit {0}
 AreDistinct (p ∷ ps) = (IsListed ps p.x p.y → ⊥) × AreDistinct ps
 
 -- the list has exactly the points that P holds of, each once
-pub record AreSpotsOf (P : ℤ → ℤ → Type 0) (ps : List Spot) : Type 0 where
+pub record AreSpotsOf (P : ℤ → ℤ → Type 0) (ps : List GridPoint) : Type 0 where
   pub distinct : AreDistinct ps
   pub same : (x y : ℤ) → IsListed ps x y ↔ P x y
 
 -- P holds of n grid points: there is a list of them, each once, whose length is n
 pub record IsCount (P : ℤ → ℤ → Type 0) (n : ℕ) : Type 0 where
-  pub spots : List Spot
+  pub spots : List GridPoint
   pub are : AreSpotsOf P spots
   pub count : length spots ≡ n
 

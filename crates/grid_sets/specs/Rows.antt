@@ -18,14 +18,14 @@ OnRuns (r ∷ rs) x = IsOnRun r x ⊎ OnRuns rs x
 
 -- The runs are maximal: they go from left to right, none is empty, and between two of them a point is missing. The
 -- first one begins at low or later.
-abbrev pub Ascending : ℤ → List Run → Type 0
-Ascending low [] = Unit {0}
-Ascending low (r ∷ rs) = (low ≤ℤ r.from) × (r.from ≤ℤ r.to) × Ascending (r.to +ℤ pos 2) rs
+abbrev pub AscendingRuns : ℤ → List Run → Type 0
+AscendingRuns low [] = Unit {0}
+AscendingRuns low (r ∷ rs) = (low ≤ℤ r.from) × (r.from ≤ℤ r.to) × AscendingRuns (r.to +ℤ pos 2) rs
 
 -- they are the maximal runs of the numbers that P holds of
 pub record AreRunsOf (P : ℤ → Type 0) (runs : List Run) : Type 0 where
   pub low : ℤ
-  pub ascending : Ascending low runs
+  pub ascending : AscendingRuns low runs
   pub same : (x : ℤ) → OnRuns runs x ↔ P x
 
 -- the runs at one y
@@ -39,14 +39,14 @@ OnRows [] x y = ⊥
 OnRows (r ∷ rs) x y = ((y ≡ r.y) × OnRuns r.runs x) ⊎ OnRows rs x y
 
 -- there is a run, and the runs are maximal
-abbrev pub IsFilled : List Run → Type 0
-IsFilled [] = ⊥
-IsFilled (r ∷ rs) = (low : ℤ) × Ascending low (r ∷ rs)
+abbrev pub AreMaximalRuns : List Run → Type 0
+AreMaximalRuns [] = ⊥
+AreMaximalRuns (r ∷ rs) = (low : ℤ) × AscendingRuns low (r ∷ rs)
 
 -- each row is below the one before it, and has points; the first one is at top or below
 abbrev pub Descending : ℤ → List Row → Type 0
 Descending top [] = Unit {0}
-Descending top (r ∷ rs) = (top ≤ℤ r.y) × IsFilled r.runs × Descending (r.y +ℤ pos 1) rs
+Descending top (r ∷ rs) = (top ≤ℤ r.y) × AreMaximalRuns r.runs × Descending (r.y +ℤ pos 1) rs
 
 -- they are the rows of some finite set, from the top: one for each y that has points, with its maximal runs
 pub record AreRows (rows : List Row) : Type 0 where

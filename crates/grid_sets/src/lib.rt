@@ -1,9 +1,11 @@
-//! Finite sets of grid points: their rows, the greedy bands of these rows, the cells of the bands, and how many points.
+//! Finite sets of grid points: their rows, the greedy bands of these rows, the cells of the bands, what a brush covers at
+//! the points of a cell, and how many points there are.
 //! The crates above use the definitions of `specs/` and the laws that the functions here state; nothing here runs.
 //! A coordinate is a unit of the grid (2 nm). x grows to the right and y downward.
 #![tactic(auto)]
 
-ghost use Rattle.grid_sets.specs.Laws.{RowsLaw, RunsLaw, BandsLaw, CellPointsLaw, CellsApartLaw, CellsTightLaw, CellsBrushLaw, CountLaw};
+ghost use Rattle.grid_sets.specs.Brush.{BrushLaw};
+ghost use Rattle.grid_sets.specs.Laws.{OneRowsLaw, OneRunsLaw, BandsLaw, CellPointsLaw, CellsApartLaw, CellsTightLaw, CellsBrushLaw, CountLaw};
 
 /// How an end of a run moves from a row to the next one below: by -1, by 0, or by 1.
 #[derive(Clone, Copy, PartialEq, Eq, Debug, Drop)]
@@ -29,8 +31,8 @@ pub struct Slant {
 
 /// A finite set has one list of rows, and each of its rows one list of runs.
 pub fn rows_law()
-    ensures rows { RowsLaw }
-    ensures runs { RunsLaw }
+    ensures rows { OneRowsLaw }
+    ensures runs { OneRunsLaw }
 {}
 
 /// A list of rows has one list of greedy bands, so a finite set has one list of cells.
@@ -43,6 +45,12 @@ pub fn cells_law()
     ensures points { CellPointsLaw }
     ensures apart { CellsApartLaw }
     ensures tight { CellsTightLaw }
+{}
+
+/// The points of a tight octagon plus a brush of at least 10 units, at every scale, are exactly those of the brush at
+/// the octagon's grid points.
+pub fn brush_law()
+    ensures { BrushLaw }
 {}
 
 /// The points, at every scale, of the cells plus a brush of at least 250 units are those of the brush at the points of

@@ -6,14 +6,14 @@ use Rattle.std.proofs.lemmas.Int.{ints}
 use Rattle.std.proofs.lemmas.Bool.{cases_lt}
 use Rattle.grid_num.specs.declared.Point.{Point}
 use Rattle.plane.specs.Plane.{PlanePoint, Bounds, Within, In, times, sum_of, ball_of}
-use Rattle.plane.proofs.Times.{mul_le}
+use Rattle.grid_num.proofs.Products.{mul_le}
 use Rattle.plane.proofs.Points.{mul_mul, In-same}
-use Rattle.covering.specs.Corners.{corners_of}
-use Rattle.covering.proofs.Lists.{any_head, any_tail}
+use Rattle.plane.specs.Corners.{corners_of}
+use Rattle.plane.proofs.Lists.{any_head, any_tail}
 use Rattle.touching.specs.Core.{Spot, area, line, OnLine, InCore, InCopper, IsReached}
-use Rattle.hulls.specs.Cells.{cells_of, around}
-use Rattle.hulls.specs.Hulls.{hull_of, cut_at, piece_hull, piece_hulls, pieces_of, piece_count, is_slanted, hulls_of, in_units}
-use Rattle.hulls.specs.Laws.{InSome, CopperLaw}
+use Rattle.hulls.specs.Cells.{points_round_all, around}
+use Rattle.hulls.specs.Hulls.{hull_of, cut_at, piece_hull, piece_hulls, count_pieces, piece_count, is_slanted, hulls_of, in_units}
+use Rattle.hulls.specs.Laws.{InSome, CopperInHullsLaw}
 use Rattle.hulls.proofs.InCells.{around_places}
 use Rattle.hulls.proofs.Means.{mean_in, piece_of, piece_mean, pieces_out}
 use Rattle.hulls.proofs.Grown.{grown}
@@ -29,9 +29,9 @@ low_side k c b x h l = omega (arith, ints, mul_le k (pos 4 *ℤ c) b h, mul_mul 
 high_side : (k : ℕ) (c b x : ℤ) → b ≤ℤ (pos 4 *ℤ c) → x ≤ℤ (pos k *ℤ b) → x ≤ℤ (pos (4 * k) *ℤ c)
 high_side k c b x h l = omega (arith, ints, mul_le k b (pos 4 *ℤ c) h, mul_mul k 4 c)
 
-area_in : (b : Bounds) (p : PlanePoint) → In b p → In (around (cells_of 4 (corners_of b))) (in_units p)
+area_in : (b : Bounds) (p : PlanePoint) → In b p → In (around (points_round_all 4 (corners_of b))) (in_units p)
 area_in b p i =
-    let o = around (cells_of 4 (corners_of b)) in
+    let o = around (points_round_all 4 (corners_of b)) in
     let k = p.scale in
     let h = around_places 4 (corners_of b) (omega arith) in
     let none : Point = record { x = pos 0; y = pos 0 } in
@@ -55,7 +55,7 @@ area_in b p i =
 -- ---- a line
 -- the octagon round the cells of a piece's ends
 abbrev piece_core : Spot → Spot → ℕ → ℕ → Bounds
-piece_core s t k c = around (cells_of (4 * k) (cut_at s t k c ∷ cut_at s t k (suc c) ∷ []))
+piece_core s t k c = around (points_round_all (4 * k) (cut_at s t k c ∷ cut_at s t k (suc c) ∷ []))
 
 -- the mean of the ends, in units
 abbrev mean_point : Spot → Spot → (i j : ℕ) → 1 ≤ i + j → PlanePoint
@@ -130,10 +130,10 @@ some_piece w h = picked (is_slanted w h) (div_ceil (max w h) 400000)
     picked true n = omega arith
     picked false n = omega arith
 
-pub copper_law : CopperLaw
+pub copper_law : CopperInHullsLaw
 unfolding InCopper InCore hulls_of hull_of
 copper_law (area b) r p i =
-    let o = around (cells_of 4 (corners_of b)) in
+    let o = around (points_round_all 4 (corners_of b)) in
     any_head (λ h. In h (in_units p)) (sum_of o (ball_of (div_ceil r 4))) []
     (grown o (div_ceil r 4) r i.0 p (quarter_reaches r) (area_in b i.0 i.1) i.2)
-copper_law (line s t) r p i = line_in s t (pieces_of s t) r i.0 p (some_piece _ _) i.1 i.2
+copper_law (line s t) r p i = line_in s t (count_pieces s t) r i.0 p (some_piece _ _) i.1 i.2

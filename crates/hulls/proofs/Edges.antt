@@ -5,10 +5,11 @@ use Rattle.std.specs.Int.RustNames.{unsigned_abs}
 use Rattle.std.proofs.lemmas.Int.{ints}
 use Rattle.std.proofs.lemmas.Bool.Decides.{nat_tests}
 use Rattle.grid_num.specs.declared.Point.{Point}
-use Rattle.plane.specs.Plane.{PlanePoint, Bounds, In, IsSame, minus, grid_point, box_of, least_root}
-use Rattle.plane.proofs.Times.{mul_le, mul_add}
+use Rattle.plane.specs.Plane.{PlanePoint, Bounds, In, IsSame, minus, grid_point, box_of}
+use Rattle.grid_num.specs.Roots.{least_root}
+use Rattle.grid_num.proofs.Products.{mul_le, mul_add}
 use Rattle.plane.proofs.Points.{mul_mul, In-same}
-use Rattle.plane.proofs.Near.{square_le}
+use Rattle.grid_num.proofs.Roots.{square_le}
 use Rattle.touching.specs.Core.{area, line, OnLine, InCore, InCopper, IsReached}
 use Rattle.hulls.specs.Hulls.{chord_of, in_halves, in_units, edge_core, edge_radius, edge_hulls_of, hulls_of}
 use Rattle.hulls.specs.Laws.{InSome, SegmentLaw, ChordLaw, ChordLengthLaw, InChordDisc, nm_in_units, spot}

@@ -5,10 +5,11 @@ use Rattle.std.specs.Int.RustNames.{unsigned_abs}
 use Rattle.std.proofs.lemmas.Int.{ints}
 use Rattle.std.proofs.lemmas.Bool.{cases_lt}
 use Rattle.std.proofs.Math.Nat.{mul-le-mul_right}
-use Rattle.plane.specs.Plane.{PlanePoint, Bounds, Within, In, times, minus, plus, sum_of, up2_of, ball_of, IsSame}
-use Rattle.plane.proofs.Times.{mul_neg, mul_sub}
+use Rattle.plane.specs.Plane.{PlanePoint, Bounds, Within, In, times, minus, plus, sum_of, ball_of, IsSame}
+use Rattle.grid_num.specs.Roots.{up2_of}
+use Rattle.grid_num.proofs.Products.{mul_neg, mul_sub}
 use Rattle.plane.proofs.Points.{mul_mul, In-plus, In-same}
-use Rattle.plane.proofs.Near.{up2_reaches, square_le}
+use Rattle.grid_num.proofs.Roots.{up2_reaches, square_le}
 use Rattle.touching.specs.Core.{IsReached}
 use Rattle.hulls.specs.Hulls.{in_units}
 

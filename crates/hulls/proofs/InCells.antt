@@ -6,8 +6,8 @@ use Rattle.std.proofs.lemmas.List.Elements.{All-head, All-tail, All-cons, All-ni
 use Rattle.std.proofs.lemmas.Int.{ints}
 use Rattle.grid_num.specs.declared.Point.{Point}
 use Rattle.plane.specs.Plane.{Bounds, Within, times}
-use Rattle.plane.proofs.Times.{mul_le, mul_add, mul_sub}
-use Rattle.hulls.specs.Cells.{floor_of, ceil_of, cell_of, cells_of, around}
+use Rattle.grid_num.proofs.Products.{mul_le, mul_add, mul_sub}
+use Rattle.hulls.specs.Cells.{floor_of, ceil_of, points_round, points_round_all, around}
 use Rattle.hulls.proofs.Rounding.{floor_low, ceil_law}
 use Rattle.hulls.proofs.Around.{Holds, around_holds}
 
@@ -31,10 +31,10 @@ box_place n b x y lx hx ly hy a0 a1 b0 b1 nw ne sw se = record {
   d_high = omega (arith, ints, mul_le n (hx -ℤ ly) b.d1 ne.d_high, mul_sub n hx ly);
 }
 
-cell_place : (n : ℕ) (b : Bounds) (p : Point) → 1 ≤ n → All (Holds b) (cell_of n p) → HoldsPlace n b p
-unfolding cell_of
+cell_place : (n : ℕ) (b : Bounds) (p : Point) → 1 ≤ n → All (Holds b) (points_round n p) → HoldsPlace n b p
+unfolding points_round
 cell_place n b p one h =
-    let at : (k : ℕ) → k < 4 → Holds b (get_or (cell_of n p) k p) = λ k l. h k p l in
+    let at : (k : ℕ) → k < 4 → Holds b (get_or (points_round n p) k p) = λ k l. h k p l in
     box_place n b p.x p.y (floor_of n p.x) (ceil_of n p.x) (floor_of n p.y) (ceil_of n p.y)
     (floor_low n p.x one) (ceil_high n p.x one) (floor_low n p.y one) (ceil_high n p.y one)
     (at 0 (omega arith)) (at 1 (omega arith)) (at 2 (omega arith)) (at 3 (omega arith))
@@ -47,13 +47,13 @@ all_back : {X : Type 0} (P : X → Type 0) (xs ys : List X) → All P (xs ++ ys)
 all_back P [] ys h = h
 all_back P (x ∷ xs) ys h = all_back P xs ys (All-tail P x (xs ++ ys) h)
 
-cells_places : (n : ℕ) (b : Bounds) (ps : List Point) → 1 ≤ n → All (Holds b) (cells_of n ps) → All (HoldsPlace n b) ps
-unfolding cells_of
+cells_places : (n : ℕ) (b : Bounds) (ps : List Point) → 1 ≤ n → All (Holds b) (points_round_all n ps) → All (HoldsPlace n b) ps
+unfolding points_round_all
 cells_places n b [] one h = All-nil (HoldsPlace n b)
 cells_places n b (p ∷ ps) one h =
-    All-cons (HoldsPlace n b) p ps (cell_place n b p one (all_front (Holds b) (cell_of n p) (cells_of n ps) h))
-    (cells_places n b ps one (all_back (Holds b) (cell_of n p) (cells_of n ps) h))
+    All-cons (HoldsPlace n b) p ps (cell_place n b p one (all_front (Holds b) (points_round n p) (points_round_all n ps) h))
+    (cells_places n b ps one (all_back (Holds b) (points_round n p) (points_round_all n ps) h))
 
 -- the octagon round the cells holds the places
-pub around_places : (n : ℕ) (ps : List Point) → 1 ≤ n → All (HoldsPlace n (around (cells_of n ps))) ps
-around_places n ps one = cells_places n (around (cells_of n ps)) ps one (around_holds (cells_of n ps))
+pub around_places : (n : ℕ) (ps : List Point) → 1 ≤ n → All (HoldsPlace n (around (points_round_all n ps))) ps
+around_places n ps one = cells_places n (around (points_round_all n ps)) ps one (around_holds (points_round_all n ps))

@@ -7,7 +7,7 @@ use Rattle.std.proofs.lemmas.Nat.{mod_below}
 use Rattle.std.proofs.Math.Nat.{div-add-mod, mul-le-mul_right, mul-le-mul_left, mul-add, add-mul}
 use lib.IntN.{zero-*ℤ}
 use Rattle.plane.specs.Plane.{Bounds, Within, times}
-use Rattle.plane.proofs.Times.{mul_suc, mul_le, mul_add, mul_sub, mul_le_back}
+use Rattle.grid_num.proofs.Products.{mul_suc, mul_le, mul_add, mul_sub, mul_le_back}
 use Rattle.plane.proofs.Points.{mul_mul}
 
 pub weigh : (i j : ℕ) (c : ℤ) → pos (i + j) *ℤ c ≡ pos i *ℤ c +ℤ pos j *ℤ c

@@ -7,11 +7,11 @@ use Rattle.std.proofs.lemmas.List.Elements.{All-cons, All-nil}
 use Rattle.std.proofs.lemmas.Int.{ints, by_lt_z}
 use Rattle.grid_num.specs.declared.Point.{Point}
 use Rattle.plane.specs.Plane.{Bounds, Within, In, sum_of, ball_of, box_of, grid_point}
-use Rattle.plane.proofs.Times.{mul_le, mul_le_back}
-use Rattle.covering.specs.Corners.{corners_of}
+use Rattle.grid_num.proofs.Products.{mul_le, mul_le_back}
+use Rattle.plane.specs.Corners.{corners_of}
 use Rattle.touching.specs.Core.{Spot, area, line, OnLine, InCore}
-use Rattle.hulls.specs.Cells.{floor_of, ceil_of, cell_of, cells_of, around}
-use Rattle.hulls.specs.Hulls.{hull_of, is_slanted, piece_count, cut_at, piece_hull, piece_hulls, pieces_of, hulls_of}
+use Rattle.hulls.specs.Cells.{floor_of, ceil_of, points_round, points_round_all, around}
+use Rattle.hulls.specs.Hulls.{hull_of, is_slanted, piece_count, cut_at, piece_hull, piece_hulls, count_pieces, hulls_of}
 use Rattle.hulls.specs.Laws.{IsPad, OneHullLaw, CentreLaw}
 use Rattle.hulls.proofs.Rounding.{floor_law, floor_low}
 use Rattle.hulls.proofs.InCells.{ceil_high}
@@ -32,7 +32,7 @@ one_piece : (w h : ℕ) → (w ≡ 0) ⊎ (h ≡ 0) → piece_count w h ≡ 1
 unfolding piece_count
 one_piece w h e = rw (none_slanted w h e) refl
 
-pad_pieces : (s t : Spot) → (s.x ≡ t.x) ⊎ (s.y ≡ t.y) → pieces_of s t ≡ 1
+pad_pieces : (s t : Spot) → (s.x ≡ t.x) ⊎ (s.y ≡ t.y) → count_pieces s t ≡ 1
 pad_pieces s t (inl e) = one_piece _ _ (inl (omega (arith, ints, e)))
 pad_pieces s t (inr e) = one_piece _ _ (inr (omega (arith, ints, e)))
 
@@ -93,11 +93,11 @@ none = record { x = pos 0; y = pos 0 }
 
 -- the cells of an area's corners 0, 2, 4 and 6, of 32 grid points
 area_cells : (b : Bounds) (x0 x1 y0 y1 : ℤ) → b.s0 -ℤ b.y0 ≡ x0 → b.y0 ≡ y0 → b.x1 ≡ x1 → b.x1 -ℤ b.d1 ≡ y0 → b.s1 -ℤ b.y1 ≡ x1 → b.y1 ≡ y1 → b.x0 ≡ x0 → b.x0 -ℤ b.d0 ≡ y1
-    → (x y : ℤ) → x0 ≤ℤ x → x ≤ℤ x1 → y0 ≤ℤ y → y ≤ℤ y1 → Within (around (cells_of 4 (corners_of b))) (floor_of 4 x) (floor_of 4 y)
-unfolding cells_of cell_of
+    → (x y : ℤ) → x0 ≤ℤ x → x ≤ℤ x1 → y0 ≤ℤ y → y ≤ℤ y1 → Within (around (points_round_all 4 (corners_of b))) (floor_of 4 x) (floor_of 4 y)
+unfolding points_round_all points_round
 area_cells b x0 x1 y0 y1 e0 e1 e2 e3 e4 e5 e6 e7 x y a0 a1 b0 b1 =
-    let o = around (cells_of 4 (corners_of b)) in
-    let h = around_holds (cells_of 4 (corners_of b)) in
+    let o = around (points_round_all 4 (corners_of b)) in
+    let h = around_holds (points_round_all 4 (corners_of b)) in
     let nw : Within o (floor_of 4 (b.s0 -ℤ b.y0)) (floor_of 4 b.y0) = h 0 none (omega arith) in
     let ne : Within o (ceil_of 4 b.x1) (floor_of 4 (b.x1 -ℤ b.d1)) = h 9 none (omega arith) in
     let se : Within o (ceil_of 4 (b.s1 -ℤ b.y1)) (ceil_of 4 b.y1) = h 19 none (omega arith) in
@@ -111,7 +111,7 @@ area_cells b x0 x1 y0 y1 e0 e1 e2 e3 e4 e5 e6 e7 x y a0 a1 b0 b1 =
         box_floored o x0 x1 y0 y1 x y a0 a1 b0 b1 (rw (f0, f1) at nw) (rw (f2, f3) at ne) (rw (f6, f7) at sw) (rw (f4, f5) at se)
 
 box_centre : (b : Bounds) (x y : ℤ) → b ≡ box_of b.x0 b.x1 b.y0 b.y1 → In b (grid_point x y)
-    → Within (around (cells_of 4 (corners_of b))) (floor_of 4 x) (floor_of 4 y)
+    → Within (around (points_round_all 4 (corners_of b))) (floor_of 4 x) (floor_of 4 y)
 box_centre b x y e i =
     let s0 : b.s0 ≡ b.x0 +ℤ b.y0 = ap (λ (z : Bounds). z.s0) e in
     let s1 : b.s1 ≡ b.x1 +ℤ b.y1 = ap (λ (z : Bounds). z.s1) e in
@@ -123,17 +123,17 @@ box_centre b x y e i =
 
 -- ---- a level or upright segment, in one piece
 -- the cells of its two ends, of eight grid points
-ends_cells : (n : ℕ) (p q : Point) → Within (around (cells_of n (p ∷ q ∷ []))) (floor_of n p.x) (floor_of n p.y)
-    × Within (around (cells_of n (p ∷ q ∷ []))) (ceil_of n p.x) (floor_of n p.y)
-    × Within (around (cells_of n (p ∷ q ∷ []))) (floor_of n p.x) (ceil_of n p.y)
-    × Within (around (cells_of n (p ∷ q ∷ []))) (ceil_of n p.x) (ceil_of n p.y)
-    × Within (around (cells_of n (p ∷ q ∷ []))) (floor_of n q.x) (floor_of n q.y)
-    × Within (around (cells_of n (p ∷ q ∷ []))) (ceil_of n q.x) (floor_of n q.y)
-    × Within (around (cells_of n (p ∷ q ∷ []))) (floor_of n q.x) (ceil_of n q.y)
-    × Within (around (cells_of n (p ∷ q ∷ []))) (ceil_of n q.x) (ceil_of n q.y)
-unfolding cells_of cell_of
+ends_cells : (n : ℕ) (p q : Point) → Within (around (points_round_all n (p ∷ q ∷ []))) (floor_of n p.x) (floor_of n p.y)
+    × Within (around (points_round_all n (p ∷ q ∷ []))) (ceil_of n p.x) (floor_of n p.y)
+    × Within (around (points_round_all n (p ∷ q ∷ []))) (floor_of n p.x) (ceil_of n p.y)
+    × Within (around (points_round_all n (p ∷ q ∷ []))) (ceil_of n p.x) (ceil_of n p.y)
+    × Within (around (points_round_all n (p ∷ q ∷ []))) (floor_of n q.x) (floor_of n q.y)
+    × Within (around (points_round_all n (p ∷ q ∷ []))) (ceil_of n q.x) (floor_of n q.y)
+    × Within (around (points_round_all n (p ∷ q ∷ []))) (floor_of n q.x) (ceil_of n q.y)
+    × Within (around (points_round_all n (p ∷ q ∷ []))) (ceil_of n q.x) (ceil_of n q.y)
+unfolding points_round_all points_round
 ends_cells n p q =
-    let h = around_holds (cells_of n (p ∷ q ∷ [])) in (
+    let h = around_holds (points_round_all n (p ∷ q ∷ [])) in (
       h 0 none (omega arith),
       h 1 none (omega arith),
       h 2 none (omega arith),
@@ -196,12 +196,12 @@ between i j s t x p q one e f g =
     (λ l. inr (mean_high i j s t x one (omega (arith, ints)) e)))
 
 line_centre : (s t : Spot) (x y : ℤ) → (s.x ≡ t.x) ⊎ (s.y ≡ t.y) → OnLine s t (grid_point x y)
-    → Within (around (cells_of 4 (cut_at s t 1 0 ∷ cut_at s t 1 1 ∷ []))) (floor_of 4 x) (floor_of 4 y)
+    → Within (around (points_round_all 4 (cut_at s t 1 0 ∷ cut_at s t 1 1 ∷ []))) (floor_of 4 x) (floor_of 4 y)
 unfolding cut_at
 line_centre s t x y e on =
     let p = cut_at s t 1 0 in
     let q = cut_at s t 1 1 in
-    ends_floored (around (cells_of 4 (p ∷ q ∷ []))) p.x p.y q.x q.y x y
+    ends_floored (around (points_round_all 4 (p ∷ q ∷ []))) p.x p.y q.x q.y x y
     (level s.x t.x s.y t.y _ _ _ _ (first s.x t.x) (second s.x t.x) (first s.y t.y) (second s.y t.y) e)
     (between on.i on.j s.x t.x x p.x q.x on.some on.x (first s.x t.x) (second s.x t.x))
     (between on.i on.j s.y t.y y p.y q.y on.some on.y (first s.y t.y) (second s.y t.y))
@@ -221,13 +221,13 @@ one_piece_centre : (s t : Spot) (r : ℕ) (x y : ℤ) → (s.x ≡ t.x) ⊎ (s.y
 unfolding piece_hulls piece_hull hull_of
 one_piece_centre s t r x y e on =
     alone (λ h. Within h (floor_of 4 x) (floor_of 4 y)) (piece_hull s t 1 r 0)
-    (ball_holds (around (cells_of 4 (cut_at s t 1 0 ∷ cut_at s t 1 1 ∷ []))) (div_ceil r 4) (floor_of 4 x) (floor_of 4 y) (line_centre s t x y e on))
+    (ball_holds (around (points_round_all 4 (cut_at s t 1 0 ∷ cut_at s t 1 1 ∷ []))) (div_ceil r 4) (floor_of 4 x) (floor_of 4 y) (line_centre s t x y e on))
 
 pub centre_law : CentreLaw
 unfolding IsPad InCore hulls_of hull_of
 centre_law (area b) r x y p i =
     alone (λ h. Within h (floor_of 4 x) (floor_of 4 y)) (hull_of 4 (corners_of b) r)
-    (ball_holds (around (cells_of 4 (corners_of b))) (div_ceil r 4) (floor_of 4 x) (floor_of 4 y) (box_centre b x y p.0 i))
+    (ball_holds (around (points_round_all 4 (corners_of b))) (div_ceil r 4) (floor_of 4 x) (floor_of 4 y) (box_centre b x y p.0 i))
 centre_law (line s t) r x y p i =
     let P : ℕ → Type 0 = λ k. All (λ h. Within h (floor_of 4 x) (floor_of 4 y)) (piece_hulls s t k r 0 k) in
     subst P (sym (pad_pieces s t p)) (one_piece_centre s t r x y p i)

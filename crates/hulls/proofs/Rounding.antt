@@ -4,7 +4,7 @@ use Rattle.std.specs.Prelude.{ℤ, pos, negsuc, neg_ℤ, ◌+ℤ◌, ◌*ℤ◌,
 use Rattle.std.proofs.lemmas.Int.{ints}
 use Rattle.std.proofs.Math.Nat.{div-add-mod}
 use Rattle.std.proofs.lemmas.Nat.{mod_below}
-use Rattle.plane.proofs.Times.{mul_le, mul_neg, mul_lt_back}
+use Rattle.grid_num.proofs.Products.{mul_le, mul_neg, mul_lt_back}
 use Rattle.hulls.specs.Cells.{floor_of, ceil_of}
 use Rattle.hulls.specs.Laws.{FloorLaw, CeilLaw}
 

@@ -10,6 +10,7 @@ unfoldable pub floor_of : ℕ → ℤ → ℤ
 floor_of n (pos a) = pos (a / n)
 floor_of n (negsuc a) = negsuc (a / n)
 
+-- rounded up
 unfoldable pub ceil_of : ℕ → ℤ → ℤ
 ceil_of n x = neg_ℤ (floor_of n (neg_ℤ x))
 
@@ -18,8 +19,8 @@ ceil_of n x = neg_ℤ (floor_of n (neg_ℤ x))
 --      0 . . 1
 --      .   p .
 --      2 . . 3
-unfoldable pub cell_of : ℕ → Point → List Point
-cell_of n p =
+unfoldable pub points_round : ℕ → Point → List Point
+points_round n p =
     record { x = floor_of n p.x; y = floor_of n p.y }
     ∷ record { x = ceil_of n p.x; y = floor_of n p.y }
     ∷ record { x = floor_of n p.x; y = ceil_of n p.y }
@@ -27,9 +28,9 @@ cell_of n p =
     ∷ []
 
 -- those of all places
-unfoldable pub cells_of : ℕ → List Point → List Point
-cells_of n [] = []
-cells_of n (p ∷ ps) = cell_of n p ++ cells_of n ps
+unfoldable pub points_round_all : ℕ → List Point → List Point
+points_round_all n [] = []
+points_round_all n (p ∷ ps) = points_round n p ++ points_round_all n ps
 
 -- the octagon of the one grid point
 abbrev pub octagon_at : Point → Bounds

@@ -4,19 +4,21 @@ use Rattle.std.specs.Prelude.{ℕ, ◌≤◌, zero, suc, ◌+◌, ◌-◌, ◌*�
 use Rattle.std.specs.Int.{div_ceil}
 use Rattle.std.specs.Int.RustNames.{unsigned_abs}
 use Rattle.std.proofs.Common.{lit≤}
-use Rattle.plane.specs.Plane.{PlanePoint, Bounds, ball_of, sum_of, box_of, least_root, positive_product}
+use Rattle.plane.specs.Plane.{PlanePoint, Bounds, ball_of, sum_of, box_of, positive_product}
+use Rattle.grid_num.specs.Roots.{least_root}
 use Rattle.grid_num.specs.declared.Point.{Point}
-use Rattle.covering.specs.Corners.{corners_of}
+use Rattle.plane.specs.Corners.{corners_of}
 use Rattle.touching.specs.Core.{Core, Spot, area, line}
-use Rattle.hulls.specs.Cells.{cells_of, around}
+use Rattle.hulls.specs.Cells.{points_round_all, around}
 
+-- a place as a point of the code
 abbrev pub corner : Spot → Point
 corner s = record { x = s.x; y = s.y }
 
 -- the octagon of copper with these corners, n to the unit, and a radius of r halves: the least one round the cells of the
 -- corners, plus the octagon round the disc of the radius, rounded up to units
 unfoldable pub hull_of : ℕ → List Point → ℕ → Bounds
-hull_of n corners r = sum_of (around (cells_of n corners)) (ball_of (div_ceil r 4))
+hull_of n corners r = sum_of (around (points_round_all n corners)) (ball_of (div_ceil r 4))
 
 -- a segment of that width and height is neither level nor upright nor slanted by 45 degrees
 unfoldable pub is_slanted : ℕ → ℕ → Bool
@@ -45,13 +47,14 @@ unfoldable pub piece_hulls : Spot → Spot → ℕ → ℕ → ℕ → ℕ → L
 piece_hulls s t k r i zero = []
 piece_hulls s t k r i (suc n) = piece_hull s t k r i ∷ piece_hulls s t k r (suc i) n
 
-abbrev pub pieces_of : Spot → Spot → ℕ
-pieces_of s t = piece_count (unsigned_abs (t.x -ℤ s.x)) (unsigned_abs (t.y -ℤ s.y))
+-- into how many pieces the segment from s to t is cut
+abbrev pub count_pieces : Spot → Spot → ℕ
+count_pieces s t = piece_count (unsigned_abs (t.x -ℤ s.x)) (unsigned_abs (t.y -ℤ s.y))
 
 -- the hulls of a core and a radius: one octagon of its corners, or, of a slanted segment, one of each piece
 unfoldable pub hulls_of : Core → ℕ → List Bounds
 hulls_of (area b) r = hull_of 4 (corners_of b) r ∷ []
-hulls_of (line s t) r = piece_hulls s t (pieces_of s t) r 0 (pieces_of s t)
+hulls_of (line s t) r = piece_hulls s t (count_pieces s t) r 0 (count_pieces s t)
 
 -- a point in halves, as a point in units
 abbrev pub in_units : PlanePoint → PlanePoint

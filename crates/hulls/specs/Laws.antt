@@ -4,6 +4,7 @@ use Rattle.std.specs.List.{All}
 use Rattle.std.proofs.Common.{lit≤}
 use Rattle.plane.specs.Plane.{PlanePoint, Bounds, Within, In, IsTight, box_of, grid_point, positive_product}
 use Rattle.grid_num.specs.declared.Point.{Point}
+pub use Rattle.touching.specs.Core.{spot}
 use Rattle.touching.specs.Core.{Core, Spot, area, line, OnLine, InCore, InCopper}
 use Rattle.hulls.specs.Cells.{floor_of, ceil_of, around}
 use Rattle.hulls.specs.Hulls.{hulls_of, edge_hulls_of, chord_of, in_units}
@@ -22,8 +23,9 @@ pub record IsLeastRound (ps : List Point) (r : Bounds) : Type 0 where
   pub holds : All (λ p. Within r p.x p.y) ps
   pub least : (b : Bounds) (q : PlanePoint) → All (λ p. Within b p.x p.y) ps → In r q → In b q
 
-abbrev pub LeastLaw : Type 0
-LeastLaw = (ps : List Point) → 0 < length ps → IsLeastRound ps (around ps)
+-- the octagon round grid points is the least one that holds them
+abbrev pub LeastRoundLaw : Type 0
+LeastRoundLaw = (ps : List Point) → 0 < length ps → IsLeastRound ps (around ps)
 
 -- and there is no other
 abbrev pub OneLeastLaw : Type 0
@@ -34,8 +36,8 @@ abbrev pub InSome : List Bounds → PlanePoint → Type 0
 InSome hulls p = Any (λ h. In h p) hulls
 
 -- every point of copper, at every scale, is in one of its hulls
-abbrev pub CopperLaw : Type 0
-CopperLaw = (c : Core) (r : ℕ) (p : PlanePoint) → InCopper c r p → InSome (hulls_of c r) (in_units p)
+abbrev pub CopperInHullsLaw : Type 0
+CopperInHullsLaw = (c : Core) (r : ℕ) (p : PlanePoint) → InCopper c r p → InSome (hulls_of c r) (in_units p)
 
 -- ---- board edges, in nanometres
 -- a point in nanometres, as a point in units
@@ -44,9 +46,6 @@ nm_in_units p = record { x = p.x; y = p.y; scale = 2 * p.scale; positive = fine 
   where
     fine : (k : ℕ) → 1 ≤ k → 1 ≤ 2 * k
     fine k h = positive_product 2 k (lit≤ tt) h
-
-abbrev pub spot : Point → Spot
-spot p = record { x = p.x; y = p.y }
 
 -- every point of a board edge that is a segment is in one of its hulls
 abbrev pub SegmentLaw : Type 0
@@ -69,6 +68,7 @@ pub record IsChord (a b : Point) (m : ℕ) : Type 0 where
   pub reaches : ((b.x -ℤ a.x) *ℤ (b.x -ℤ a.x) +ℤ (b.y -ℤ a.y) *ℤ (b.y -ℤ a.y)) ≤ℤ pos (m * m)
   pub least : (n : ℕ) → ((b.x -ℤ a.x) *ℤ (b.x -ℤ a.x) +ℤ (b.y -ℤ a.y) *ℤ (b.y -ℤ a.y)) ≤ℤ pos (n * n) → m ≤ n
 
+-- the disc on an arc's chord has the chord's length, rounded up
 abbrev pub ChordLengthLaw : Type 0
 ChordLengthLaw = (a b : Point) → IsChord a b (chord_of a b)
 

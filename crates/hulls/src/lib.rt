@@ -3,7 +3,7 @@
 //! A hull's coordinate is a unit of the grid (2 nm), a core's is half a nanometre, and a board edge's a nanometre.
 #![tactic(auto)]
 
-ghost use Rattle.hulls.specs.Laws.{FloorLaw, CeilLaw, LeastLaw, OneLeastLaw, CopperLaw, SegmentLaw, ChordLaw, ChordLengthLaw, OneHullLaw, CentreLaw};
+ghost use Rattle.hulls.specs.Laws.{FloorLaw, CeilLaw, LeastRoundLaw, OneLeastLaw, CopperInHullsLaw, SegmentLaw, ChordLaw, ChordLengthLaw, OneHullLaw, CentreLaw};
 
 /// The two roundings are the greatest whole number below and the least above.
 pub fn rounding_law()
@@ -13,13 +13,13 @@ pub fn rounding_law()
 
 /// The octagon round grid points is tight, holds them, and is in each other octagon that holds them; no other is so.
 pub fn least_law()
-    ensures least { LeastLaw }
+    ensures least { LeastRoundLaw }
     ensures one { OneLeastLaw }
 {}
 
 /// Every point of copper, at every scale, is in one of its hulls.
 pub fn copper_law()
-    ensures { CopperLaw }
+    ensures { CopperInHullsLaw }
 {}
 
 /// Every point of a board edge that is a segment, and every point of the disc on an arc's chord, is in one of its hulls;

@@ -6,8 +6,9 @@ use Rattle.std.proofs.lemmas.Int.{ints, clamps, by_lt_z}
 use Rattle.plane.specs.Plane.{Bounds, PlanePoint, Within, In, IsTight, IsOct}
 use Rattle.plane.specs.Narrow.{IsNearZero, Small}
 use Rattle.plane.proofs.Equal.{equal}
-use Rattle.plane.proofs.Times.{mul_le}
-use Rattle.octagon.specs.Hull.{IsAt, IsLesser, IsGreater, IsWidened, IsInside}
+use Rattle.grid_num.proofs.Products.{mul_le}
+use Rattle.octagon.specs.Inner.Hull.{IsOctAt, IsLesser, IsGreater, IsWidened}
+use Rattle.plane.proofs.Inside.{IsInside}
 use Rattle.octagon.proofs.Plain.{code_read, code_add, code_sub, IsOct-IsSmall}
 
 -- ---- one point
@@ -69,7 +70,7 @@ code_at-IsOct x y h k =
     })))
     (at_of-IsOct x y h k)
 
-pub at_inside : (h b : Bounds) (x y : ℤ) → IsAt h x y → Within b x y → IsInside h b
+pub at_inside : (h b : Bounds) (x y : ℤ) → IsOctAt h x y → Within b x y → IsInside h b
 at_inside h b x y e w = record {
   x0 = omega (arith, ints, e.x0, w.x_low);
   x1 = omega (arith, ints, e.x1, w.x_high);
@@ -225,17 +226,3 @@ widened_inside b r c x y w i h = record {
   d0 = omega (arith, ints, w.d0.is, i.d0, h.d_low);
   d1 = omega (arith, ints, w.d1.is, i.d1, h.d_high);
 }
-
-pub inside_in : (b c : Bounds) (p : PlanePoint) → IsInside b c → In b p → In c p
-inside_in b c p i h =
-    let k = p.scale in
-    record {
-      x_low = omega (arith, ints, mul_le k c.x0 b.x0 i.x0, h.x_low);
-      x_high = omega (arith, ints, mul_le k b.x1 c.x1 i.x1, h.x_high);
-      y_low = omega (arith, ints, mul_le k c.y0 b.y0 i.y0, h.y_low);
-      y_high = omega (arith, ints, mul_le k b.y1 c.y1 i.y1, h.y_high);
-      s_low = omega (arith, ints, mul_le k c.s0 b.s0 i.s0, h.s_low);
-      s_high = omega (arith, ints, mul_le k b.s1 c.s1 i.s1, h.s_high);
-      d_low = omega (arith, ints, mul_le k c.d0 b.d0 i.d0, h.d_low);
-      d_high = omega (arith, ints, mul_le k b.d1 c.d1 i.d1, h.d_high);
-    }

@@ -4,13 +4,14 @@ use Rattle.std.specs.Prelude.{ℤ, pos, ◌+ℤ◌, ◌-ℤ◌, ◌*ℤ◌, ◌�
 use Rattle.std.proofs.lemmas.Int.{ints}
 use Rattle.std.proofs.lemmas.Bool.{cases_lt}
 use Rattle.grid_num.specs.declared.Point.{Point}
-use Rattle.plane.specs.Plane.{Bounds, In, HasRoom, IsOct, PlanePoint, minus, moved, grid_point, up2_of, ball_of}
-use Rattle.covering.specs.Covering.{Covers, edges_of}
-use Rattle.covering.specs.Corners.{corners_of, without_repeats}
-use Rattle.covering.proofs.Repeats.{exact_cover_law}
+use Rattle.plane.specs.Plane.{Bounds, In, HasRoom, IsOct, PlanePoint, minus, moved, grid_point, ball_of}
+use Rattle.grid_num.specs.Roots.{up2_of}
+use Rattle.plane.specs.Covering.{Covers, edges_of}
+use Rattle.plane.specs.Corners.{corners_of, without_repeats}
+use Rattle.plane.proofs.Repeats.{exact_cover_law}
 use Rattle.plane.proofs.Moved.{moved_law, IsTight-moved}
 use Rattle.plane.proofs.Equal.{equal}
-use Rattle.plane.proofs.Near.{up2_le_double, lt_up2}
+use Rattle.grid_num.proofs.Roots.{up2_le_double, lt_up2}
 use Rattle.octagon.specs.Bounded.{IsNearZero, IsInReach}
 use Rattle.octagon.proofs.Plain.{code_add, code_sub, code_read, plain_add, plain_sub, plain_read, Small, IsOct-IsSmall}
 

@@ -2,10 +2,12 @@
 use Rattle.std.proofs.Common.{◌≡◌, refl, sym, subst, ℕ, ◌^◌, ◌≤◌, arith, w64, to_z, of_z}
 use Rattle.std.specs.Prelude.{ℤ, pos, ◌+ℤ◌, ◌-ℤ◌, ◌≤ℤ◌, ◌<ℤ◌, neg_ℤ, ◌↔◌, IsTrue, Bool, true, false, not}
 use Rattle.std.proofs.lemmas.Int.{ints}
-use Rattle.plane.specs.Plane.{Bounds, PlanePoint, In, IsOct, HasRoom, IsMeeting, IsInSum, sum_of, AreNear, up2_of, ball_of}
+use Rattle.plane.specs.Plane.{Bounds, PlanePoint, In, IsOct, HasRoom, IsMeeting, IsInSum, sum_of, AreNear, ball_of}
+use Rattle.grid_num.specs.Roots.{up2_of}
 use Rattle.plane.proofs.Equal.{equal}
 use Rattle.plane.proofs.Points.{IsInSum-In, In-IsInSum, IsMeeting-overlap, overlap-IsMeeting}
-use Rattle.plane.proofs.Near.{IsTight-sum, AreNear-bounds, bounds-AreNear, turned, up2_le_double}
+use Rattle.plane.proofs.Near.{IsTight-sum, AreNear-bounds, bounds-AreNear, turned}
+use Rattle.grid_num.proofs.Roots.{up2_le_double}
 pub use Rattle.plane.specs.Narrow.{IsNearZero, Small, IsSmall}
 
 -- a sum and a difference as the code computes them

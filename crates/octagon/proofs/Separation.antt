@@ -3,13 +3,13 @@ use Rattle.std.proofs.Common.{◌≡◌, ◌∙◌, ap, ℕ, ◌*◌, arith, lit
 use Rattle.std.specs.Prelude.{ℤ, pos, ◌+ℤ◌, ◌-ℤ◌, ◌*ℤ◌, ◌≤ℤ◌, ◌<ℤ◌, neg_ℤ}
 use Rattle.std.proofs.lemmas.Int.{ints}
 use Rattle.plane.specs.Plane.{PlanePoint, Bounds, StrictlyWithin, In, StrictlyIn, IsMeeting, AreNear, minus, ball_of, sum_of, moved}
-use Rattle.plane.proofs.Times.{mul_le, mul_add, mul_sub, mul_lt_back}
+use Rattle.grid_num.proofs.Products.{mul_le, mul_add, mul_sub, mul_lt_back}
 use Rattle.plane.proofs.Points.{mul_mul, mul_swap, IsInSum-In, In-IsInSum, IsMeeting-overlap}
 use Rattle.plane.proofs.Meet.{meeting_point}
 use Rattle.plane.proofs.Near.{IsOverlappingStrictly, turned, AreNear-bounds, bounds-AreNear, IsNear-StrictlyIn, IsTight-ball}
 use Rattle.plane.proofs.Moved.{IsTight-moved}
 use Rattle.plane.proofs.Euclid.{euclid}
-use Rattle.octagon.specs.Laws.{SumLaw, MeetingLaw, SeparationLaw, BarredLaw, DistanceLaw}
+use Rattle.octagon.specs.Laws.{SumLaw, MeetingLaw, SeparationLaw, BarredLaw, OctDistanceLaw}
 
 pub sum_law : SumLaw
 sum_law b c p t u = (In-IsInSum b c p t u, IsInSum-In b c p)
@@ -145,6 +145,6 @@ barred_law a b c x y one t = (
   λ w. bounds-AreNear a (moved (ball_of b) x y) c one (IsTight-moved (ball_of b) x y (IsTight-ball b)) t (from_round a b c x y w),
 )
 
-pub distance_law : DistanceLaw
+pub distance_law : OctDistanceLaw
 unfolding AreNear
 distance_law a b c f p q i k = euclid a p q (λ n. f (p, q, i, k, n))

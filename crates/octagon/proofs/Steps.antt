@@ -4,9 +4,9 @@ use Rattle.std.specs.Prelude.{ℤ, pos, ◌+ℤ◌, ◌-ℤ◌, ◌≤ℤ◌, �
 use Rattle.std.specs.Int.{int_max, int_min}
 use Rattle.std.proofs.lemmas.Int.{ints, clamps, by_lt_z}
 use Rattle.plane.specs.Plane.{Bounds, Within, StrictlyWithin, IsOct}
-use Rattle.plane.specs.Narrow.{IsGreatest, IsLeast, IsHalfUp, IsHalfDown, IsNarrowed, IsClosed, IsOrdered, IsSmall, Small, IsTakeable}
-use Rattle.octagon.specs.Bounded.{IsInRange}
-use Rattle.octagon.specs.Steps.{IsLower, IsUpper, IsLeastRound}
+use Rattle.plane.specs.Narrow.{IsGreatestOfFour, IsLeastOfFour, IsHalfUp, IsHalfDown, IsNarrowed, IsClosed, IsOrdered, IsSmall, Small, IsTakeable}
+use Rattle.octagon.specs.Bounded.{AreInRange}
+use Rattle.octagon.specs.Inner.Steps.{IsLower, IsUpper, IsTightened}
 use Rattle.plane.proofs.Narrow.{none_ordered, narrowed_x, IsOct-closed, narrowed_within, closed_within, within_closed, within_narrowed}
 use Rattle.std.specs.Int.Signed.{le_z, lt_z}
 use Rattle.octagon.proofs.Plain.{code_read, code_add, code_sub, plain_add, plain_sub, plain_read, IsOct-IsSmall}
@@ -30,7 +30,7 @@ fits_one : (m a b : ℤ) → FitsSigned w64 a → FitsSigned w64 b → ((m ≡ a
 fits_one m a b h k e = omega (arith, ints)
 
 pub greatest_of : (a b c d p q m : ℤ) → FitsSigned w64 a → FitsSigned w64 b → FitsSigned w64 c → FitsSigned w64 d
-    → p ≡ int_max (code_read a) (code_read b) → q ≡ int_max (code_read c) (code_read d) → m ≡ int_max (code_read p) (code_read q) → IsGreatest a b c d (code_read m)
+    → p ≡ int_max (code_read a) (code_read b) → q ≡ int_max (code_read c) (code_read d) → m ≡ int_max (code_read p) (code_read q) → IsGreatestOfFour a b c d (code_read m)
 greatest_of a b c d p q m ha hb hc hd e1 e2 e3 =
     let f = max_is a b p ha hb e1 in
     let g = max_is c d q hc hd e2 in
@@ -39,7 +39,7 @@ greatest_of a b c d p q m ha hb hc hd e1 e2 e3 =
     let h = max_is p q m hp hq e3 in
     let hm = fits_one m p q hp hq h in
     let e : code_read m ≡ m = omega (arith, ints) in
-    let P : ℤ → Type 0 = λ z. IsGreatest a b c d z in
+    let P : ℤ → Type 0 = λ z. IsGreatestOfFour a b c d z in
     subst P (sym e) (record {
       first = omega (arith, ints, clamps);
       second = omega (arith, ints, clamps);
@@ -49,7 +49,7 @@ greatest_of a b c d p q m ha hb hc hd e1 e2 e3 =
     })
 
 pub least_of : (a b c d p q m : ℤ) → FitsSigned w64 a → FitsSigned w64 b → FitsSigned w64 c → FitsSigned w64 d
-    → p ≡ int_min (code_read a) (code_read b) → q ≡ int_min (code_read c) (code_read d) → m ≡ int_min (code_read p) (code_read q) → IsLeast a b c d (code_read m)
+    → p ≡ int_min (code_read a) (code_read b) → q ≡ int_min (code_read c) (code_read d) → m ≡ int_min (code_read p) (code_read q) → IsLeastOfFour a b c d (code_read m)
 least_of a b c d p q m ha hb hc hd e1 e2 e3 =
     let f = min_is a b p ha hb e1 in
     let g = min_is c d q hc hd e2 in
@@ -58,7 +58,7 @@ least_of a b c d p q m ha hb hc hd e1 e2 e3 =
     let h = min_is p q m hp hq e3 in
     let hm = fits_one m p q hp hq h in
     let e : code_read m ≡ m = omega (arith, ints) in
-    let P : ℤ → Type 0 = λ z. IsLeast a b c d z in
+    let P : ℤ → Type 0 = λ z. IsLeastOfFour a b c d z in
     subst P (sym e) (record {
       first = omega (arith, ints, clamps);
       second = omega (arith, ints, clamps);
@@ -67,29 +67,29 @@ least_of a b c d p q m ha hb hc hd e1 e2 e3 =
       is = choice a b c d p q m f g h;
     })
 
-greatest_by : (a b c d m a' b' c' d' m' : ℤ) → a ≡ a' → b ≡ b' → c ≡ c' → d ≡ d' → m ≡ m' → IsGreatest a b c d m → IsGreatest a' b' c' d' m'
+greatest_by : (a b c d m a' b' c' d' m' : ℤ) → a ≡ a' → b ≡ b' → c ≡ c' → d ≡ d' → m ≡ m' → IsGreatestOfFour a b c d m → IsGreatestOfFour a' b' c' d' m'
 greatest_by a b c d m a' b' c' d' m' e1 e2 e3 e4 e5 g =
-    let P1 : ℤ → Type 0 = λ z. IsGreatest z b c d m in
-    let P2 : ℤ → Type 0 = λ z. IsGreatest a' z c d m in
-    let P3 : ℤ → Type 0 = λ z. IsGreatest a' b' z d m in
-    let P4 : ℤ → Type 0 = λ z. IsGreatest a' b' c' z m in
-    let P5 : ℤ → Type 0 = λ z. IsGreatest a' b' c' d' z in
+    let P1 : ℤ → Type 0 = λ z. IsGreatestOfFour z b c d m in
+    let P2 : ℤ → Type 0 = λ z. IsGreatestOfFour a' z c d m in
+    let P3 : ℤ → Type 0 = λ z. IsGreatestOfFour a' b' z d m in
+    let P4 : ℤ → Type 0 = λ z. IsGreatestOfFour a' b' c' z m in
+    let P5 : ℤ → Type 0 = λ z. IsGreatestOfFour a' b' c' d' z in
     subst P5 e5 (subst P4 e4 (subst P3 e3 (subst P2 e2 (subst P1 e1 g))))
 
-least_by : (a b c d m a' b' c' d' m' : ℤ) → a ≡ a' → b ≡ b' → c ≡ c' → d ≡ d' → m ≡ m' → IsLeast a b c d m → IsLeast a' b' c' d' m'
+least_by : (a b c d m a' b' c' d' m' : ℤ) → a ≡ a' → b ≡ b' → c ≡ c' → d ≡ d' → m ≡ m' → IsLeastOfFour a b c d m → IsLeastOfFour a' b' c' d' m'
 least_by a b c d m a' b' c' d' m' e1 e2 e3 e4 e5 g =
-    let P1 : ℤ → Type 0 = λ z. IsLeast z b c d m in
-    let P2 : ℤ → Type 0 = λ z. IsLeast a' z c d m in
-    let P3 : ℤ → Type 0 = λ z. IsLeast a' b' z d m in
-    let P4 : ℤ → Type 0 = λ z. IsLeast a' b' c' z m in
-    let P5 : ℤ → Type 0 = λ z. IsLeast a' b' c' d' z in
+    let P1 : ℤ → Type 0 = λ z. IsLeastOfFour z b c d m in
+    let P2 : ℤ → Type 0 = λ z. IsLeastOfFour a' z c d m in
+    let P3 : ℤ → Type 0 = λ z. IsLeastOfFour a' b' z d m in
+    let P4 : ℤ → Type 0 = λ z. IsLeastOfFour a' b' c' z m in
+    let P5 : ℤ → Type 0 = λ z. IsLeastOfFour a' b' c' d' z in
     subst P5 e5 (subst P4 e4 (subst P3 e3 (subst P2 e2 (subst P1 e1 g))))
 
 fits_greatest : (a b c d m : ℤ) → FitsSigned w64 a → FitsSigned w64 b → FitsSigned w64 c → FitsSigned w64 d → ((m ≡ a) ⊎ ((m ≡ b) ⊎ ((m ≡ c) ⊎ (m ≡ d)))) → code_read m ≡ m
 fits_greatest a b c d m h1 h2 h3 h4 e = omega (arith, ints)
 
 pub lower_of : (own sum far difference near h r : ℤ) → FitsSigned w64 own → Small sum → Small far → Small difference → Small near
-    → IsHalfUp (code_add sum difference) h → IsGreatest (code_read own) (code_sub sum far) (code_add difference near) (code_read h) r
+    → IsHalfUp (code_add sum difference) h → IsGreatestOfFour (code_read own) (code_sub sum far) (code_add difference near) (code_read h) r
     → IsLower own sum far difference near (code_read r)
 lower_of own sum far difference near h r fo hs hf hd hn half g =
     let e0 : code_read own ≡ own = omega (arith, ints) in
@@ -117,7 +117,7 @@ lower_of own sum far difference near h r fo hs hf hd hn half g =
     small_fits' a b h k = omega (arith, ints)
 
 pub upper_of : (own sum far difference near h r : ℤ) → FitsSigned w64 own → Small sum → Small far → Small difference → Small near
-    → IsHalfDown (code_add sum difference) h → IsLeast (code_read own) (code_sub sum far) (code_add difference near) (code_read h) r
+    → IsHalfDown (code_add sum difference) h → IsLeastOfFour (code_read own) (code_sub sum far) (code_add difference near) (code_read h) r
     → IsUpper own sum far difference near (code_read r)
 upper_of own sum far difference near h r fo hs hf hd hn half g =
     let e0 : code_read own ≡ own = omega (arith, ints) in
@@ -218,23 +218,23 @@ plain_twice_add : (a p : ℤ) → Small a → Small p → code_twice_add a p ≡
 plain_twice_add a p h k = omega (arith, ints)
 
 pub sum_low_of : (own a b p q m : ℤ) → FitsSigned w64 own → FitsSigned w64 m → Small a → Small b → Small p → Small q
-    → IsGreatest (code_read own) (code_add a b) (code_twice_sub a p) (code_twice_add b q) m
-    → IsGreatest own (a +ℤ b) ((a +ℤ a) -ℤ p) ((b +ℤ b) +ℤ q) (code_read m)
+    → IsGreatestOfFour (code_read own) (code_add a b) (code_twice_sub a p) (code_twice_add b q) m
+    → IsGreatestOfFour own (a +ℤ b) ((a +ℤ a) -ℤ p) ((b +ℤ b) +ℤ q) (code_read m)
 sum_low_of own a b p q m fo fm ha hb hp hq g =
     greatest_by _ _ _ _ _ _ _ _ _ _ (read_fits own fo) (plain_add a b ha hb) (plain_twice_sub a p ha hp) (plain_twice_add b q hb hq) (sym (read_fits m fm)) g
 
 pub sum_high_of : (own a b p q m : ℤ) → FitsSigned w64 own → FitsSigned w64 m → Small a → Small b → Small p → Small q
-    → IsLeast (code_read own) (code_add a b) (code_twice_sub a p) (code_twice_add b q) m
-    → IsLeast own (a +ℤ b) ((a +ℤ a) -ℤ p) ((b +ℤ b) +ℤ q) (code_read m)
+    → IsLeastOfFour (code_read own) (code_add a b) (code_twice_sub a p) (code_twice_add b q) m
+    → IsLeastOfFour own (a +ℤ b) ((a +ℤ a) -ℤ p) ((b +ℤ b) +ℤ q) (code_read m)
 sum_high_of own a b p q m fo fm ha hb hp hq g =
     least_by _ _ _ _ _ _ _ _ _ _ (read_fits own fo) (plain_add a b ha hb) (plain_twice_sub a p ha hp) (plain_twice_add b q hb hq) (sym (read_fits m fm)) g
 
 -- ---- the four bounds on x + y and x - y
 abbrev SumLow : ℤ → ℤ → ℤ → ℤ → ℤ → ℤ → Type 0
-SumLow own a b p q m = IsGreatest own (a +ℤ b) ((a +ℤ a) -ℤ p) ((b +ℤ b) +ℤ q) m
+SumLow own a b p q m = IsGreatestOfFour own (a +ℤ b) ((a +ℤ a) -ℤ p) ((b +ℤ b) +ℤ q) m
 
 abbrev SumHigh : ℤ → ℤ → ℤ → ℤ → ℤ → ℤ → Type 0
-SumHigh own a b p q m = IsLeast own (a +ℤ b) ((a +ℤ a) -ℤ p) ((b +ℤ b) +ℤ q) m
+SumHigh own a b p q m = IsLeastOfFour own (a +ℤ b) ((a +ℤ a) -ℤ p) ((b +ℤ b) +ℤ q) m
 
 abbrev pub code_closed : Bounds → ℤ → ℤ → ℤ → ℤ → Bounds
 code_closed t r1 r2 r3 r4 =
@@ -296,7 +296,7 @@ none_unordered b r o e x y w = let t = o.1 (none_ordered b x y w) in cc
 pub none_narrow : (b t : Bounds) → IsNarrowed b t → t.x1 <ℤ t.x0 → (x y : ℤ) → ¬ (Within b x y)
 none_narrow b t n l x y w = let h = narrowed_x b t x y n w in omega (arith, ints)
 
-pub least_round_of : (b t r : Bounds) → IsTakeable b → IsNarrowed b t → IsOrdered b → t.x0 ≤ℤ t.x1 → IsClosed t r → IsLeastRound b r
+pub least_round_of : (b t r : Bounds) → IsTakeable b → IsNarrowed b t → IsOrdered b → t.x0 ≤ℤ t.x1 → IsClosed t r → IsTightened b r
 least_round_of b t r k n o h c =
     record {
       oct = IsOct-closed b t r k n o h c;
@@ -328,10 +328,10 @@ copy_is r m = equal (code_copy r) r (record {
   d1 = plain_read r.d1 m.d1;
 })
 
-pub copied : (b t r : Bounds) → IsTakeable b → IsNarrowed b t → IsOrdered b → t.x0 ≤ℤ t.x1 → IsClosed t r → IsLeastRound b (code_copy r)
+pub copied : (b t r : Bounds) → IsTakeable b → IsNarrowed b t → IsOrdered b → t.x0 ≤ℤ t.x1 → IsClosed t r → IsTightened b (code_copy r)
 copied b t r k n o h c =
     let l = least_round_of b t r k n o h c in
-    let P : Bounds → Type 0 = λ z. IsLeastRound b z in
+    let P : Bounds → Type 0 = λ z. IsTightened b z in
     subst P (sym (copy_is r (IsOct-IsSmall r l.oct))) l
 
 pub branch_le : (t v : Bounds) → v ≡ t → FitsSigned w64 v.x0 → FitsSigned w64 v.x1 → lt_z (code_read v.x1) (code_read v.x0) ≡ false → t.x0 ≤ℤ t.x1
@@ -342,7 +342,7 @@ branch_lt t v e f g h = let e0 = ap (λ (z : Bounds). z.x0) e in let e1 = ap (λ
 
 -- ---- what the public functions say of it
 pub none_iff : (b : Bounds) (Q : ℤ → ℤ → Type 0) (r : Option Bounds) → ((x y : ℤ) → Within b x y ↔ Q x y)
-    → (IsNone r → (x y : ℤ) → ¬ (Within b x y)) → IfSome r (IsLeastRound b) → IsNone r ↔ ((x y : ℤ) → ¬ (Q x y))
+    → (IsNone r → (x y : ℤ) → ¬ (Within b x y)) → IfSome r (IsTightened b) → IsNone r ↔ ((x y : ℤ) → ¬ (Q x y))
 none_iff b Q None e n l = (λ h x y q. n refl x y ((e x y).1 q), λ h. refl)
 none_iff b Q (Some o) e n l = (
   λ h. cc,
@@ -350,15 +350,15 @@ none_iff b Q (Some o) e n l = (
 )
 
 pub some_iff : (b : Bounds) (Q : ℤ → ℤ → Type 0) (r : Option Bounds) → ((x y : ℤ) → Within b x y ↔ Q x y)
-    → IfSome r (IsLeastRound b) → IfSome r (λ o. (x y : ℤ) → Within o x y ↔ Q x y)
+    → IfSome r (IsTightened b) → IfSome r (λ o. (x y : ℤ) → Within o x y ↔ Q x y)
 some_iff b Q None e l = l
 some_iff b Q (Some o) e l = λ x y. (λ w. (e x y).0 ((l.same x y).0 w), λ q. (l.same x y).1 ((e x y).1 q))
 
-pub some_oct : (b : Bounds) (r : Option Bounds) → IfSome r (IsLeastRound b) → IfSome r (λ o. IsOct o)
+pub some_oct : (b : Bounds) (r : Option Bounds) → IfSome r (IsTightened b) → IfSome r (λ o. IsOct o)
 some_oct b None l = l
 some_oct b (Some o) l = l.oct
 
-pub range_small : (b : Bounds) → IsInRange b → IsSmall b
+pub range_small : (b : Bounds) → AreInRange b → IsSmall b
 range_small b r = record {
   x0 = record { low = omega (arith, ints); high = omega (arith, ints) };
   x1 = record { low = omega (arith, ints); high = omega (arith, ints) };

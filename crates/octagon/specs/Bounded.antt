@@ -19,7 +19,7 @@ bounds_of b =
     }
 
 -- the bounds on x and y lie within 2 ^ 40, and those on x + y and x - y within 2 ^ 41
-pub record IsInRange (b : Bounds) : Type 0 where
+pub record AreInRange (b : Bounds) : Type 0 where
   pub x0 : IsNearZero (2 ^ 40) b.x0
   pub x1 : IsNearZero (2 ^ 40) b.x1
   pub y0 : IsNearZero (2 ^ 40) b.y0

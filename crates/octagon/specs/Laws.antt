@@ -26,7 +26,7 @@ BarredLaw =
     → AreNear a (moved (ball_of b) x y) c ↔ StrictlyWithin (sum_of (sum_of c (ball_of a)) (ball_of b)) x y
 
 -- where octagons are not near at a, every two points of them have a distance of at least a
-abbrev pub DistanceLaw : Type 0
-DistanceLaw =
+abbrev pub OctDistanceLaw : Type 0
+OctDistanceLaw =
     (a : ℕ) (b c : Bounds) → (AreNear a b c → ⊥) → (p q : PlanePoint) → In b p → In c q
     → pos ((a * (minus p q).scale) * (a * (minus p q).scale)) ≤ℤ scaled_dist_sq p q

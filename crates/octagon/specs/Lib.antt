@@ -1,5 +1,4 @@
 pub mod Bounded
-pub mod Hull
-pub mod Steps
 pub mod Room
 pub mod Laws
+pub mod Inner

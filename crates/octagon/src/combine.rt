@@ -1,8 +1,8 @@
 // Octagons moved and added up, and the corners of one.
 ghost use Rattle.std.specs.Prelude.{◌≡◌, ◌↔◌};
 ghost use Rattle.plane.specs.Plane.{PlanePoint, In, HasRoom, IsInSum, sum_of, moved, minus, grid_point};
-ghost use Rattle.covering.specs.Covering.{Covers, edges_of};
-ghost use Rattle.covering.specs.Corners.{corners_of, without_repeats};
+ghost use Rattle.plane.specs.Covering.{Covers, edges_of};
+ghost use Rattle.plane.specs.Corners.{corners_of, without_repeats};
 ghost use Rattle.octagon.specs.Bounded.{IsInReach};
 
 use crate::Oct;

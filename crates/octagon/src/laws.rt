@@ -1,7 +1,7 @@
 //! The laws of octagons: what their calls rest on, over the points of the plane alone. Nothing here runs.
 ghost use Rattle.plane.specs.Laws.{EuclideanLaw};
 ghost use Rattle.octagon.specs.Room.{BallReachLaw, SumReachLaw, MovedReachLaw, PointsReachLaw, RoomLaw};
-ghost use Rattle.octagon.specs.Laws.{SumLaw, MeetingLaw, SeparationLaw, BarredLaw, DistanceLaw};
+ghost use Rattle.octagon.specs.Laws.{SumLaw, MeetingLaw, SeparationLaw, BarredLaw, OctDistanceLaw};
 
 /// The sums of the points of two tight octagons are the points of a tight octagon, that of the summed bounds.
 pub fn sum_law()
@@ -32,7 +32,7 @@ pub fn room_law()
 
 /// Where two octagons are not near at a, every two points of them have a distance of at least a.
 pub fn distance_law()
-    ensures { DistanceLaw }
+    ensures { OctDistanceLaw }
 {}
 
 /// The Euclidean step: points that are not near at a have a distance of at least a.

@@ -12,8 +12,6 @@ mod eight;
 pub mod laws;
 mod make;
 mod narrow;
-#[cfg(test)]
-mod tests;
 
 use std::marker::Model;
 

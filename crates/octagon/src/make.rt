@@ -2,8 +2,8 @@
 ghost use Rattle.std.specs.Prelude.{◌≡◌, ℕ, ◌<◌, ◌≤◌, ◌^◌, ◌↔◌, ℤ, length, IsNone, IfSome};
 ghost use Rattle.std.specs.List.{All};
 ghost use Rattle.plane.specs.Plane.{Bounds, PlanePoint, Within, In, StrictlyWithin, IsOct, ball_of};
-ghost use Rattle.octagon.specs.Bounded.{bounds_of, IsInRange, IsInReach};
-ghost use Rattle.octagon.specs.Hull.{IsAt, IsWidened};
+ghost use Rattle.octagon.specs.Bounded.{bounds_of, AreInRange, IsInReach};
+ghost use Rattle.octagon.specs.Inner.Hull.{IsOctAt, IsWidened};
 
 use crate::Oct;
 use crate::eight::Eight;
@@ -14,7 +14,7 @@ impl Oct {
     /// The octagon of the grid points that satisfy all eight bounds, in the order x, y, x + y, x - y, the lower bound
     /// first. None exactly where no grid point does.
     pub fn of_bounds(bounds: [i64; 8]) -> Option<Oct>
-        requires { IsInRange (bounds_of bounds) }
+        requires { AreInRange (bounds_of bounds) }
         ensures none { IsNone result ↔ ((x y : ℤ) → ¬ (Within (bounds_of bounds) x y)) }
         ensures points { IfSome result (λ o. (x y : ℤ) → Within o x y ↔ Within (bounds_of bounds) x y) }
         ensures oct { IfSome result (λ o. IsOct o) }
@@ -87,7 +87,7 @@ impl Oct {
     // The one point.
     fn of_point(p: Point) -> Oct
         requires { IsInReach p }
-        ensures at { IsAt result p.x p.y }
+        ensures at { IsOctAt result p.x p.y }
         ensures oct { IsOct result }
     {
         Oct {

@@ -2,8 +2,8 @@
 // then x + y and x - y to what x and y leave. Halves are rounded inward; nothing else depends on parity.
 ghost use Rattle.std.specs.Prelude.{ℤ, ◌^◌, ◌↔◌, ◌+ℤ◌, ◌-ℤ◌, IsTrue, IsNone, IfSome};
 ghost use Rattle.plane.specs.Plane.{Within};
-ghost use Rattle.plane.specs.Narrow.{IsNearZero, IsGreatest, IsLeast, IsHalfUp, IsHalfDown, IsNarrowed, IsClosed, IsOrdered, IsSmall, IsTakeable};
-ghost use Rattle.octagon.specs.Steps.{IsLower, IsUpper, IsLeastRound};
+ghost use Rattle.plane.specs.Narrow.{IsNearZero, IsGreatestOfFour, IsLeastOfFour, IsHalfUp, IsHalfDown, IsNarrowed, IsClosed, IsOrdered, IsSmall, IsTakeable};
+ghost use Rattle.octagon.specs.Inner.Steps.{IsLower, IsUpper, IsTightened};
 
 use crate::Oct;
 use crate::ask::all;
@@ -13,7 +13,7 @@ use crate::eight::Eight;
 pub fn tightened(b: &Eight) -> Option<Oct>
     requires { IsTakeable b.now }
     ensures none { IsNone result → ((x y : ℤ) → ¬ (Within b.now x y)) }
-    ensures some { IfSome result (λ o. IsLeastRound b.now o) }
+    ensures some { IfSome result (λ o. IsTightened b.now o) }
 {
     if !ordered(b) {
         return None;
@@ -111,7 +111,7 @@ fn sum_low(own: i64, a0: i64, b0: i64, p: i64, q: i64) -> i64
     requires b { IsNearZero (2 ^ 42) b0 }
     requires p { IsNearZero (2 ^ 42) p }
     requires q { IsNearZero (2 ^ 42) q }
-    ensures { IsGreatest own (a0 +ℤ b0) ((a0 +ℤ a0) -ℤ p) ((b0 +ℤ b0) +ℤ q) result }
+    ensures { IsGreatestOfFour own (a0 +ℤ b0) ((a0 +ℤ a0) -ℤ p) ((b0 +ℤ b0) +ℤ q) result }
 {
     greatest(own, a0 + b0, a0 + a0 - p, b0 + b0 + q)
 }
@@ -122,19 +122,19 @@ fn sum_high(own: i64, a1: i64, b1: i64, p: i64, q: i64) -> i64
     requires b { IsNearZero (2 ^ 42) b1 }
     requires p { IsNearZero (2 ^ 42) p }
     requires q { IsNearZero (2 ^ 42) q }
-    ensures { IsLeast own (a1 +ℤ b1) ((a1 +ℤ a1) -ℤ p) ((b1 +ℤ b1) +ℤ q) result }
+    ensures { IsLeastOfFour own (a1 +ℤ b1) ((a1 +ℤ a1) -ℤ p) ((b1 +ℤ b1) +ℤ q) result }
 {
     least(own, a1 + b1, a1 + a1 - p, b1 + b1 + q)
 }
 
 fn greatest(a: i64, b: i64, c: i64, d: i64) -> i64
-    ensures { IsGreatest a b c d result }
+    ensures { IsGreatestOfFour a b c d result }
 {
     a.max(b).max(c.max(d))
 }
 
 fn least(a: i64, b: i64, c: i64, d: i64) -> i64
-    ensures { IsLeast a b c d result }
+    ensures { IsLeastOfFour a b c d result }
 {
     a.min(b).min(c.min(d))
 }

@@ -2,7 +2,7 @@
 use Rattle.std.proofs.Common.{◌≡◌, refl, sym, ◌∙◌, ap, ℕ, zero, suc, ◌+◌, ◌<◌, ◌≤◌, ◌⊎◌, inl, inr, arith, List, [], ◌∷◌, length, get_or, add-one}
 use Rattle.std.specs.Prelude.{ℤ}
 use Rattle.grid_num.specs.declared.Point.{Point}
-use Rattle.covering.specs.Covering.{Edge, edges_to, edges_of}
+use Rattle.plane.specs.Covering.{Edge, edges_to, edges_of}
 use Rattle.outline_slab.specs.Rules.{edge, no_edge}
 
 to_length : (z a : Point) (cs : List Point) → length (edges_to z a cs) ≡ suc (length cs)

@@ -4,10 +4,10 @@ use Rattle.std.specs.Prelude.{◌-ℤ◌, ◌↔◌, IsTrue}
 use Rattle.std.specs.List.{All}
 use Rattle.plane.specs.Plane.{PlanePoint, Bounds, In, IsMeeting}
 use Rattle.grid_num.specs.declared.Point.{Point}
-use Rattle.covering.specs.Covering.{Edge, IsOn, edges_of}
-use Rattle.covering.specs.Edges.{IsOctilinear}
-use Rattle.outline_slab.specs.Rules.{IsSide, IsNext, AreCrossing, edge, no_edge, no_corner}
-use Rattle.outline_slab.specs.Side.{IsSameSign}
+use Rattle.plane.specs.Covering.{Edge, IsOn, edges_of}
+use Rattle.plane.specs.Edges.{IsOctilinear}
+use Rattle.outline_slab.specs.Rules.{IsSide, IsNextAround, AreCrossing, edge, no_edge, no_corner}
+use Rattle.outline_slab.specs.Inner.Side.{IsSameSign}
 use Rattle.outline_slab.proofs.Chain.{edges_length, edge_start, edge_next, edge_last}
 use Rattle.outline_slab.proofs.Folds.{way, IsFolded, IsShared, shared_folded, folded_shared}
 
@@ -15,7 +15,7 @@ pub side_of : (cs : List Point) (i : ℕ) → All IsSide (edges_of cs) → i < l
 side_of cs i all h = all i no_edge (let l = edges_length cs in omega arith)
 
 -- ---- edges that are no neighbours: their hulls meet
-pub far_law : (cs : List Point) (i j : ℕ) (b c : Bounds) → (IsNext (length cs) i j → ⊥) → (IsNext (length cs) j i → ⊥)
+pub far_law : (cs : List Point) (i j : ℕ) (b c : Bounds) → (IsNextAround (length cs) i j → ⊥) → (IsNextAround (length cs) j i → ⊥)
     → ((p : PlanePoint) → In b p ↔ IsOn (edge cs i) p) → ((p : PlanePoint) → In c p ↔ IsOn (edge cs j) p) → IsMeeting b c ↔ AreCrossing cs i j
 unfolding IsMeeting
 far_law cs i j b c m n f g = (
@@ -25,18 +25,18 @@ far_law cs i j b c m n f g = (
 
 -- ---- neighbours: the second goes back along the first
 -- the end of an edge is the start of the next one
-pub joined : (cs : List Point) (i j : ℕ) → i < length cs → j < length cs → IsNext (length cs) i j → (edge cs i).finish ≡ (edge cs j).start
+pub joined : (cs : List Point) (i j : ℕ) → i < length cs → j < length cs → IsNextAround (length cs) i j → (edge cs i).finish ≡ (edge cs j).start
 joined cs i j h g (inl e) = edge_next cs i no_corner (omega arith) ∙ sym (edge_start cs j no_corner g ∙ ap (λ (k : ℕ). get_or cs k no_corner) (omega arith))
 joined cs i j h g (inr e) = edge_last cs i no_corner (omega arith) ∙ sym (edge_start cs j no_corner g ∙ ap (λ (k : ℕ). get_or cs k no_corner) e.1)
 
 -- with three edges and more, j follows i or i follows j, not both
-once : (n i j : ℕ) → 3 ≤ n → IsNext n i j → IsNext n j i → ⊥
+once : (n i j : ℕ) → 3 ≤ n → IsNextAround n i j → IsNextAround n j i → ⊥
 once n i j h a b = omega arith
 
 to_way : (cs : List Point) (i j : ℕ) → (edge cs i).finish ≡ (edge cs j).start → edge cs i ≡ way (edge cs i).start (edge cs j).start
 to_way cs i j e = let f : Point → Edge = λ z. record { start = (edge cs i).start; finish = z } in ap f e
 
-pub near_law : (cs : List Point) (i j : ℕ) → 3 ≤ length cs → i < length cs → j < length cs → IsNext (length cs) i j → IsSide (edge cs i) → IsSide (edge cs j)
+pub near_law : (cs : List Point) (i j : ℕ) → 3 ≤ length cs → i < length cs → j < length cs → IsNextAround (length cs) i j → IsSide (edge cs i) → IsSide (edge cs j)
     → IsFolded (edge cs i).start (edge cs j).start (edge cs j).finish ↔ AreCrossing cs i j
 near_law cs i j three h g n s t = (
   λ f. out (folded_shared a b c u t f),
@@ -75,7 +75,7 @@ pub side_octilinear : (cs : List Point) (i : ℕ) (s : Edge) → All IsSide (edg
 side_octilinear cs i s all h e = subst IsOctilinear (sym e) (side_of cs i all h).octilinear
 
 pub near_test : (cs : List Point) (i j : ℕ) (s t : Edge) (r : Bool) → s ≡ edge cs i → t ≡ edge cs j
-    → 3 ≤ length cs → i < length cs → j < length cs → IsNext (length cs) i j → All IsSide (edges_of cs)
+    → 3 ≤ length cs → i < length cs → j < length cs → IsNextAround (length cs) i j → All IsSide (edges_of cs)
     → IsTrue r ↔ (IsSameSign (s.start.x -ℤ s.finish.x) (t.finish.x -ℤ t.start.x) × IsSameSign (s.start.y -ℤ s.finish.y) (t.finish.y -ℤ t.start.y))
     → IsTrue r ↔ AreCrossing cs i j
 near_test cs i j s t r d e three h g n all test =
@@ -89,7 +89,7 @@ near_test cs i j s t r d e three h g n all test =
     (λ z. q.0 (m.0 z), λ c. m.1 (q.1 c))
 
 pub far_test : (cs : List Point) (i j : ℕ) (s t : Edge) (b c : Bounds) (r : Bool) → s ≡ edge cs i → t ≡ edge cs j
-    → (IsNext (length cs) i j → ⊥) → (IsNext (length cs) j i → ⊥)
+    → (IsNextAround (length cs) i j → ⊥) → (IsNextAround (length cs) j i → ⊥)
     → ((p : PlanePoint) → In b p ↔ IsOn s p) → ((p : PlanePoint) → In c p ↔ IsOn t p) → IsTrue r ↔ IsMeeting b c → IsTrue r ↔ AreCrossing cs i j
 far_test cs i j s t b c r d e m n f g test =
     let q = far_law cs i j b c m n

@@ -6,11 +6,11 @@ use Rattle.std.proofs.lemmas.Int.{ints}
 use Rattle.std.proofs.lemmas.List.{length-map, get_or-map, get_or_default}
 use Rattle.plane.specs.Plane.{PlanePoint}
 use Rattle.grid_num.specs.declared.Point.{Point}
-use Rattle.covering.specs.Covering.{Edge, IsOn, edges_to, edges_of}
-use Rattle.covering.specs.Edges.{IsOctilinear}
-use Rattle.outline_slab.specs.Rules.{IsInSpan, IsSide, IsNext, IsJoint, AreCrossing, NoneCrossing, edge, no_edge, no_corner}
+use Rattle.plane.specs.Covering.{Edge, IsOn, edges_to, edges_of}
+use Rattle.plane.specs.Edges.{IsOctilinear}
+use Rattle.outline_slab.specs.Rules.{IsInSpan, IsSide, IsNextAround, IsJoint, AreCrossing, NoneCrossing, edge, no_edge, no_corner}
 use Rattle.outline_slab.specs.Faults.{IsLeastCrossing}
-use Rattle.outline_slab.specs.Exchange.{exchanged, all_exchanged}
+use Rattle.outline_slab.specs.Inner.Exchange.{exchanged, all_exchanged}
 use Rattle.outline_slab.proofs.Chain.{edges_length}
 
 abbrev mirror : Edge → Edge
@@ -55,7 +55,7 @@ joint_back cs i j p h q =
     let qx = q.end.x in
     let qy = q.end.y in
     record {
-      next = subst (λ (m : ℕ). IsNext m i j) n q.next;
+      next = subst (λ (m : ℕ). IsNextAround m i j) n q.next;
       end = record {
         x = ap (λ (z : ℤ). pos p.scale *ℤ z) (sym ey) ∙ qy;
         y = ap (λ (z : ℤ). pos p.scale *ℤ z) (sym ex) ∙ qx;

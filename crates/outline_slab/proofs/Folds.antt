@@ -4,14 +4,14 @@ use Rattle.std.proofs.Common.{◌≡◌, refl, ◌⊎◌, inl, inr, arith}
 use Rattle.std.specs.Prelude.{ℤ, pos, neg_ℤ, ◌+ℤ◌, ◌-ℤ◌, ◌*ℤ◌, ◌<ℤ◌}
 use Rattle.std.proofs.lemmas.Int.{ints, by_lt_z}
 use Rattle.plane.specs.Plane.{PlanePoint, IsSame, grid_point}
-use Rattle.plane.proofs.Times.{mul_lt, mul_add, mul_sub}
+use Rattle.grid_num.proofs.Products.{mul_lt, mul_add, mul_sub}
 use Rattle.grid_num.specs.declared.Point.{Point}
-use Rattle.covering.specs.Covering.{Edge, IsOn, Between}
-use Rattle.covering.specs.Edges.{IsOctilinear, turned}
-use Rattle.covering.proofs.On.{at, on_level, level_on, on_upright, upright_on, on_rise, rise_on, on_fall, fall_on}
-use Rattle.covering.proofs.Laws.{on_turned}
+use Rattle.plane.specs.Covering.{Edge, IsOn, Between}
+use Rattle.plane.specs.Edges.{IsOctilinear, turned_back}
+use Rattle.plane.proofs.On.{at, on_level, level_on, on_upright, upright_on, on_rise, rise_on, on_fall, fall_on}
+use Rattle.plane.proofs.CoverLaws.{on_turned}
 use Rattle.outline_slab.specs.Rules.{IsSide}
-use Rattle.outline_slab.specs.Side.{IsSameSign}
+use Rattle.outline_slab.specs.Inner.Side.{IsSameSign}
 use Rattle.outline_slab.proofs.Chain.{same_point}
 
 abbrev pub way : Point → Point → Edge
@@ -173,7 +173,7 @@ octilinear_back a b (inr (inr (inl r))) = inr (inr (inl (omega (arith, ints))))
 octilinear_back a b (inr (inr (inr f))) = inr (inr (inr (omega (arith, ints))))
 
 on_back : (a b : Point) (p : PlanePoint) → IsOctilinear (way b a) → IsOn (way b a) p → IsOn (way a b) p
-unfolding turned
+unfolding turned_back
 on_back a b p c o = on_turned p (way b a) c o
 
 pub folded_shared : (a b c : Point) → IsSide (way a b) → IsSide (way b c) → IsFolded a b c → IsShared a b c

@@ -7,18 +7,18 @@ use Rattle.std.proofs.lemmas.List.{map-append}
 use Rattle.plane.specs.Plane.{PlanePoint, Bounds, StrictlyWithin, IsOct, box_of}
 use Rattle.grid_num.specs.declared.Point.{Point}
 use Rattle.octagon.specs.Bounded.{IsInReach}
-use Rattle.covering.specs.Covering.{Edge, Covers, edges_of}
-use Rattle.covering.specs.Corners.{box_corners}
-use Rattle.covering.specs.Edges.{IsOctilinear}
-use Rattle.covering.proofs.Lists.{any_head, any_tail, any_left, any_right}
-use Rattle.slabs.specs.Slabs.{IsOneOf, AreClosed, starts}
+use Rattle.plane.specs.Covering.{Edge, Covers, edges_of}
+use Rattle.plane.specs.Corners.{box_corners}
+use Rattle.plane.specs.Edges.{IsOctilinear}
+use Rattle.plane.proofs.Lists.{any_head, any_tail, any_left, any_right}
+use Rattle.slabs.specs.Slabs.{IsAmong, AreClosed, starts}
 use Rattle.slabs.specs.Outside.{IsFrame, IsOutside}
 use Rattle.slabs.proofs.Closed.{rows_law}
 use Rattle.slabs.proofs.Outside.{outside_law}
 use Rattle.slabs.proofs.Framed.{framed_law}
 use Rattle.outline_slab.specs.declared.side.Side.{Side}
-use Rattle.outline_slab.specs.Rules.{IsSimple, IsKept, no_corner}
-use Rattle.outline_slab.specs.Cuts.{all_edges, IsSound, IsInSome}
+use Rattle.outline_slab.specs.Rules.{IsSimple, IsKeptOutline, no_corner}
+use Rattle.outline_slab.specs.Cuts.{all_edges, IsSoundEdge, IsInSome}
 use Rattle.outline_slab.proofs.Simple.{closed_chain, sound_chain}
 
 -- ---- the sides that the code collects
@@ -48,7 +48,7 @@ rim_of b = edges_of (box_corners b.x0 b.x1 b.y0 b.y1)
 starts_both : (es fs : List Edge) → starts (es ++ fs) ≡ starts es ++ starts fs
 starts_both es fs = map-append (λ (e : Edge). e.start.y) es fs
 
-rim_rows : (b : Bounds) → IsOneOf (starts (rim_of b)) b.y0 × IsOneOf (starts (rim_of b)) b.y1
+rim_rows : (b : Bounds) → IsAmong (starts (rim_of b)) b.y0 × IsAmong (starts (rim_of b)) b.y1
 rim_rows b = (
   any_head (λ x. x ≡ b.y0) b.y0 (b.y0 ∷ b.y1 ∷ b.y1 ∷ []) refl,
   any_tail (λ x. x ≡ b.y1) b.y0 (b.y0 ∷ b.y1 ∷ b.y1 ∷ []) (any_tail (λ x. x ≡ b.y1) b.y0 (b.y1 ∷ b.y1 ∷ []) (any_head (λ x. x ≡ b.y1) b.y1 (b.y1 ∷ []) refl)),
@@ -93,23 +93,23 @@ upright : (e : Edge) → e.start.x ≡ e.finish.x → IsOctilinear e
 unfolding IsOctilinear
 upright e h = inr (inl h)
 
-sound_rim : (b : Bounds) → IsOct b → b.x0 ≤ℤ b.x1 → b.y0 ≤ℤ b.y1 → All IsSound (rim_of b)
+sound_rim : (b : Bounds) → IsOct b → b.x0 ≤ℤ b.x1 → b.y0 ≤ℤ b.y1 → All IsSoundEdge (rim_of b)
 sound_rim b o h g = at
   where
     corner : (p : Point) → (p.x ≡ b.x0) ⊎ (p.x ≡ b.x1) → (p.y ≡ b.y0) ⊎ (p.y ≡ b.y1) → IsInReach p
     corner p x y = corner_reach b p o x y h g
 
-    at : (k : ℕ) (d : Edge) → k < 4 → IsSound (get_or (rim_of b) k d)
+    at : (k : ℕ) (d : Edge) → k < 4 → IsSoundEdge (get_or (rim_of b) k d)
     at zero d l = record { octilinear = level _ refl; reached = record { start = corner _ (inl refl) (inl refl); finish = corner _ (inr refl) (inl refl) } }
     at (suc zero) d l = record { octilinear = upright _ refl; reached = record { start = corner _ (inr refl) (inl refl); finish = corner _ (inr refl) (inr refl) } }
     at (suc (suc zero)) d l = record { octilinear = level _ refl; reached = record { start = corner _ (inr refl) (inr refl); finish = corner _ (inl refl) (inr refl) } }
     at (suc (suc (suc zero))) d l = record { octilinear = upright _ refl; reached = record { start = corner _ (inl refl) (inr refl); finish = corner _ (inl refl) (inl refl) } }
     at (suc (suc (suc (suc k)))) d l = absurd (omega (arith, l))
 
-pub sound_both : (cs : List Point) (b : Bounds) → IsKept cs → IsFrame cs b → IsOct b → All IsSound (edges_of cs ++ edges_of (box_corners b.x0 b.x1 b.y0 b.y1))
+pub sound_both : (cs : List Point) (b : Bounds) → IsKeptOutline cs → IsFrame cs b → IsOct b → All IsSoundEdge (edges_of cs ++ edges_of (box_corners b.x0 b.x1 b.y0 b.y1))
 sound_both cs b k f o =
     let w = wide cs b k.simple f in
-    all_both IsSound (edges_of cs) (rim_of b) (sound_chain cs k) (sound_rim b o (omega (arith, ints, w.0)) (omega (arith, ints, w.1)))
+    all_both IsSoundEdge (edges_of cs) (rim_of b) (sound_chain cs k) (sound_rim b o (omega (arith, ints, w.0)) (omega (arith, ints, w.1)))
 
 -- ---- what the octagons are
 pub outside_of : (cs : List Point) (b : Bounds) (octs : List Bounds) (es : List Edge) (p : PlanePoint) → IsSimple cs → IsFrame cs b → es ≡ edges_of cs ++ edges_of (box_corners b.x0 b.x1 b.y0 b.y1)

@@ -5,13 +5,13 @@ use Rattle.std.specs.List.{All}
 use Rattle.std.proofs.lemmas.Int.{ints}
 use Rattle.std.proofs.lemmas.List.{length-map, get_or-map, get_or_default}
 use Rattle.plane.specs.Plane.{PlanePoint, IsSame, grid_point}
-use Rattle.plane.proofs.Times.{mul_add}
+use Rattle.grid_num.proofs.Products.{mul_add}
 use Rattle.grid_num.specs.declared.Point.{Point}
-use Rattle.covering.specs.Covering.{Edge, IsOn, Between, edges_to, edges_of}
-use Rattle.covering.specs.Edges.{IsOctilinear}
-use Rattle.covering.specs.Units.{finer}
-use Rattle.covering.proofs.On.{at, on_level, level_on, on_upright, upright_on, on_rise, rise_on, on_fall, fall_on}
-use Rattle.outline_slab.specs.Rules.{IsSide, IsNext, IsJoint, AreCrossing, IsSimple, IsWithin, IsInSpan, IsKept, edge, no_edge}
+use Rattle.plane.specs.Covering.{Edge, IsOn, Between, edges_to, edges_of}
+use Rattle.plane.specs.Edges.{IsOctilinear}
+use Rattle.plane.specs.Units.{finer}
+use Rattle.plane.proofs.On.{at, on_level, level_on, on_upright, upright_on, on_rise, rise_on, on_fall, fall_on}
+use Rattle.outline_slab.specs.Rules.{IsSide, IsNextAround, IsJoint, AreCrossing, IsSimple, IsPointWithin, IsInSpan, IsKeptOutline, edge, no_edge}
 use Rattle.outline_slab.proofs.Chain.{edges_length}
 use Rattle.outline_slab.proofs.Crossings.{side_of}
 
@@ -85,7 +85,7 @@ joint_doubled cs i j p h k =
     let x : (edge (map (finer 2) cs) j).start.x ≡ pos 2 *ℤ (edge cs j).start.x = ap (λ (a : Point). a.x) e in
     let y : (edge (map (finer 2) cs) j).start.y ≡ pos 2 *ℤ (edge cs j).start.y = ap (λ (a : Point). a.y) e in
     record {
-      next = subst (λ (m : ℕ). IsNext m i j) n k.next;
+      next = subst (λ (m : ℕ). IsNextAround m i j) n k.next;
       end = same (edge cs j).start (edge (map (finer 2) cs) j).start p x y k.end;
     }
   where
@@ -122,13 +122,13 @@ simple_halved cs s =
     all_sides : (cs : List Point) → ((i : ℕ) → i < length cs → IsSide (edge cs i)) → All IsSide (edges_of cs)
     all_sides cs f = λ k d h. subst IsSide (get_or_default (edges_of cs) k no_edge d h) (f k (let l = edges_length cs in omega arith))
 
-within_halved : (a : Point) → IsInSpan (finer 2 a) → IsWithin 250000000 a
+within_halved : (a : Point) → IsInSpan (finer 2 a) → IsPointWithin 250000000 a
 within_halved a w = record {
   x = record { low = (let l = w.x.low in omega (arith, ints)); high = (let l = w.x.high in omega (arith, ints)) };
   y = record { low = (let l = w.y.low in omega (arith, ints)); high = (let l = w.y.high in omega (arith, ints)) };
 }
 
-pub kept : (cs ps : List Point) → map (finer 2) cs ≡ ps → All IsInSpan ps → IsSimple ps → IsKept cs
+pub kept : (cs ps : List Point) → map (finer 2) cs ≡ ps → All IsInSpan ps → IsSimple ps → IsKeptOutline cs
 kept cs ps e all s = record {
   simple = simple_halved cs (subst IsSimple (sym e) s);
   within = λ k d h. within_halved (get_or cs k d)

@@ -3,10 +3,10 @@ use Rattle.std.proofs.Common.{◌≡◌, ℕ, inl, inr, arith}
 use Rattle.std.specs.Prelude.{ℤ, pos, neg_ℤ, ◌+ℤ◌, ◌-ℤ◌, ◌*ℤ◌, ◌≤ℤ◌, ◌↔◌}
 use Rattle.std.proofs.lemmas.Int.{ints, by_lt_z}
 use Rattle.plane.specs.Plane.{PlanePoint, Bounds, Within, In}
-use Rattle.plane.proofs.Times.{mul_le, mul_add, mul_sub}
-use Rattle.covering.specs.Covering.{Edge, IsOn, Between}
-use Rattle.covering.specs.Edges.{IsOctilinear}
-use Rattle.covering.proofs.On.{at, on_level, level_on, on_upright, upright_on, on_rise, rise_on, on_fall, fall_on}
+use Rattle.grid_num.proofs.Products.{mul_le, mul_add, mul_sub}
+use Rattle.plane.specs.Covering.{Edge, IsOn, Between}
+use Rattle.plane.specs.Edges.{IsOctilinear}
+use Rattle.plane.proofs.On.{at, on_level, level_on, on_upright, upright_on, on_rise, rise_on, on_fall, fall_on}
 
 -- r holds both ends of the edge, and lies in all bounds that hold them
 pub record IsHull (e : Edge) (r : Bounds) : Type 0 where

@@ -7,36 +7,36 @@ use Rattle.std.proofs.lemmas.Bool.{cases_order, cases_lt}
 use Rattle.std.proofs.lemmas.List.{get_or_default, get_or_append_left, get_or_push}
 use Rattle.std.proofs.lemmas.List.Sorted.{All-permutation, Contains-permutation}
 use Rattle.plane.specs.Plane.{Bounds, IsMeeting}
-use Rattle.plane.proofs.Times.{mul_le_back}
+use Rattle.grid_num.proofs.Products.{mul_le_back}
 use Rattle.grid_num.specs.declared.Point.{Point}
 use Rattle.outline_slab.specs.Rules.{AreCrossing, NoneCrossing}
-use Rattle.outline_slab.specs.Faults.{IsBefore, IsLeastCrossing}
-use Rattle.outline_slab.specs.Search.{IsRow, IsRowAt, AreRows, AreEdgeRows, IsBeforeBest, IsFound, Misses, IsBetter, MissesLater}
+use Rattle.outline_slab.specs.Faults.{IsPairBefore, IsLeastCrossing}
+use Rattle.outline_slab.specs.Inner.Search.{IsRow, IsRowAt, AreRowsOfEdges, AreEdgeRows, IsBeforeBest, IsFound, Misses, IsBetterFind, MissesLater}
 use Rattle.outline_slab.specs.declared.rows.Row.{Row}
 use Rattle.outline_slab.proofs.Hulls.{above, below}
 use Rattle.outline_slab.proofs.Crossings.{turned_crossing}
 
 -- ---- better pairs
-before_best : (best : Option (ℕ × ℕ)) (k l i j : ℕ) → IsBefore k l i j → IsBeforeBest i j best → IsBeforeBest k l best
+before_best : (best : Option (ℕ × ℕ)) (k l i j : ℕ) → IsPairBefore k l i j → IsBeforeBest i j best → IsBeforeBest k l best
 before_best None k l i j h g = tt
 before_best (Some p) k l i j (inl h) (inl g) = inl (omega arith)
 before_best (Some p) k l i j (inl h) (inr g) = inl (omega (arith, g.0))
 before_best (Some p) k l i j (inr h) (inl g) = inl (omega (arith, h.0))
 before_best (Some p) k l i j (inr h) (inr g) = inr (h.0 ∙ g.0, omega (arith, h.1, g.1))
 
-pub better_found : (cs : List Point) (best : Option (ℕ × ℕ)) (i j : ℕ) → i < j → j < length cs → IsBeforeBest i j best → AreCrossing cs i j → IsBetter cs best (Some (i, j))
+pub better_found : (cs : List Point) (best : Option (ℕ × ℕ)) (i j : ℕ) → i < j → j < length cs → IsBeforeBest i j best → AreCrossing cs i j → IsBetterFind cs best (Some (i, j))
 better_found cs best i j o w b x = record {
   found = (o, w, x);
   misses = λ k l m p q h y. m p q (before_best best k l i j h b) y;
 }
 
-pub better_same : (cs : List Point) (best : Option (ℕ × ℕ)) → IsFound cs best → IsBetter cs best best
+pub better_same : (cs : List Point) (best : Option (ℕ × ℕ)) → IsFound cs best → IsBetterFind cs best best
 better_same cs best f = record { found = f; misses = λ i j m. m }
 
-pub better_trans : (cs : List Point) (a b c : Option (ℕ × ℕ)) → IsBetter cs a b → IsBetter cs b c → IsBetter cs a c
+pub better_trans : (cs : List Point) (a b c : Option (ℕ × ℕ)) → IsBetterFind cs a b → IsBetterFind cs b c → IsBetterFind cs a c
 better_trans cs a b c h g = record { found = g.found; misses = λ i j m. g.misses i j (h.misses i j m) }
 
-pub better_later : (cs : List Point) (rows : List Row) (a b : Option (ℕ × ℕ)) (u n : ℕ) → IsBetter cs a b → MissesLater cs rows a u n → MissesLater cs rows b u n
+pub better_later : (cs : List Point) (rows : List Row) (a b : Option (ℕ × ℕ)) (u n : ℕ) → IsBetterFind cs a b → MissesLater cs rows a u n → MissesLater cs rows b u n
 better_later cs rows a b u n h m = λ v d l g. let w = m v d l g in (h.misses _ _ w.0, h.misses _ _ w.1)
 
 -- ---- rows
@@ -60,7 +60,7 @@ sorted_far rows s u (suc v) d h g =
           omega (arith, ints))
     ]
 
-pub apart_later : (cs : List Point) (rows : List Row) (best : Option (ℕ × ℕ)) (u m v : ℕ) (d e f : Row) → AreRows cs rows → u < length rows → m ≤ v → v < length rows
+pub apart_later : (cs : List Point) (rows : List Row) (best : Option (ℕ × ℕ)) (u m v : ℕ) (d e f : Row) → AreRowsOfEdges cs rows → u < length rows → m ≤ v → v < length rows
     → (get_or rows u e).bottom <ℤ (get_or rows m f).top
     → Misses cs best (get_or rows u d).index (get_or rows v d).index × Misses cs best (get_or rows v d).index (get_or rows u d).index
 apart_later cs rows best u m v d e f r hu hm hv h =
@@ -87,7 +87,7 @@ abbrev pub no_hull : Bounds
 no_hull = record { x0 = pos 0; x1 = pos 0; y0 = pos 0; y1 = pos 0; s0 = pos 0; s1 = pos 0; d0 = pos 0; d1 = pos 0 }
 
 -- ---- all pairs
-all_missed : (cs : List Point) (rows : List Row) (best : Option (ℕ × ℕ)) → AreRows cs rows
+all_missed : (cs : List Point) (rows : List Row) (best : Option (ℕ × ℕ)) → AreRowsOfEdges cs rows
     → ((u : ℕ) → u < length rows → MissesLater cs rows best u (length rows)) → (i j : ℕ) → Misses cs best i j
 all_missed cs rows best r m i j o w =
     pair (r.every i (omega arith)).0 (r.every j w).0 (r.every i (omega arith)).1 (r.every j w).1
@@ -102,7 +102,7 @@ all_missed cs rows best r m i j o w =
       | inr (inr l) ↦ (let p = rw (b.index none, a.index none) at (m v b.place u none l a.place) in p.1 o w)
     ]
 
-pub least_found : (cs : List Point) (rows : List Row) (best : Option (ℕ × ℕ)) → AreRows cs rows → IsFound cs best
+pub least_found : (cs : List Point) (rows : List Row) (best : Option (ℕ × ℕ)) → AreRowsOfEdges cs rows → IsFound cs best
     → ((u : ℕ) → u < length rows → MissesLater cs rows best u (length rows))
     → MatchOption best (NoneCrossing cs) (λ p. IsLeastCrossing cs p.0 p.1)
 least_found cs rows None r f m = λ i j o w x. all_missed cs rows None r m i j o w tt x
@@ -115,7 +115,7 @@ least_found cs rows (Some p) r f m = record {
 
 -- ---- after a sort
 pub sorted_rows : (cs : List Point) (rows sorted : List Row) → AreEdgeRows cs rows → IsPermutation rows sorted
-    → ((u : ℕ) (d : Row) → u + 1 < length sorted → (get_or sorted u d).top ≤ℤ (get_or sorted (u + 1) d).top) → AreRows cs sorted
+    → ((u : ℕ) (d : Row) → u + 1 < length sorted → (get_or sorted u d).top ≤ℤ (get_or sorted (u + 1) d).top) → AreRowsOfEdges cs sorted
 sorted_rows cs rows sorted a p s = record {
   each = All-permutation (IsRow cs) rows sorted p a.each;
   every = λ i h.

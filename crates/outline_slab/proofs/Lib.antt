@@ -6,7 +6,6 @@ pub mod Crossings
 pub mod Halves
 pub mod OneFault
 pub mod Scaled
-pub mod Sorted
 pub mod LeastPair
 pub mod Sides
 pub mod Rising

@@ -3,7 +3,7 @@ use Rattle.std.proofs.Common.{◌≡◌, refl, ap, ◌∙◌, ℕ, inl, inr, ari
 use Rattle.std.specs.List.{All}
 use Rattle.std.proofs.lemmas.Bool.{cases_order}
 use Rattle.grid_num.specs.declared.Point.{Point}
-use Rattle.covering.specs.Covering.{Edge, edges_of}
+use Rattle.plane.specs.Covering.{Edge, edges_of}
 use Rattle.outline_slab.specs.Rules.{IsOnGrid, IsSide, no_corner, no_edge}
 use Rattle.outline_slab.specs.Faults.{IsFirstOff, IsLeastCrossing, OneFaultLaw, NoFaultLaw}
 use Rattle.outline_slab.specs.declared.error.OutlineFault.{OutlineFault}

@@ -5,8 +5,8 @@ use Rattle.std.specs.List.Sorted.{IsPartitionedBy, IsPartitionPoint}
 use Rattle.std.proofs.lemmas.Int.{ints}
 use Rattle.std.proofs.lemmas.Bool.{cases_lt}
 use Rattle.std.proofs.lemmas.List.{get_or_default}
-use Rattle.slabs.specs.Slabs.{IsOneOf}
-use Rattle.slabs.specs.Cutting.{AreNeighbours}
+use Rattle.slabs.specs.Slabs.{IsAmong}
+use Rattle.slabs.specs.Inner.Cutting.{AreNeighbourRows}
 use Rattle.slabs.proofs.Cutting.{one_is}
 use Rattle.outline_slab.specs.Cuts.{AreRising}
 
@@ -63,10 +63,10 @@ module _ (rows : List ℤ) (y : ℤ) (i : ℕ) (rising : AreRising rows) (found 
   pub found_after : (d : ℤ) → Any (λ z. y <ℤ z) rows → y <ℤ get_or rows i d
   found_after d a = found_high i d (omega arith) (found_within a)
 
-  pub found_row : (d : ℤ) → Any (λ z. y <ℤ z) rows → IsOneOf rows (get_or rows i d)
+  pub found_row : (d : ℤ) → Any (λ z. y <ℤ z) rows → IsAmong rows (get_or rows i d)
   found_row d a = one_is rows i d (found_within a)
 
-  pub found_next : (d : ℤ) → Any (λ z. y <ℤ z) rows → AreNeighbours rows y (get_or rows i d)
+  pub found_next : (d : ℤ) → Any (λ z. y <ℤ z) rows → AreNeighbourRows rows y (get_or rows i d)
   found_next d a = λ k q h. elim (cases_lt k i) [
     | inl l ↦ inl (found_low k q l)
     | inr l ↦

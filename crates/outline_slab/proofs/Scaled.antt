@@ -13,11 +13,11 @@ use Rattle.std.proofs.lemmas.Bool.{true≢false}
 use Rattle.plane.specs.Plane.{PlanePoint}
 use Rattle.plane.specs.Narrow.{IsNearZero}
 use Rattle.grid_num.specs.declared.Point.{Point}
-use Rattle.covering.specs.Covering.{Edge, IsOn, IsOdd, Between, Covers, crossing, crossings, down_crossing, edges_of}
-use Rattle.covering.proofs.Counts.{less_true, less_false, most_true, most_false, none_up}
-use Rattle.covering.proofs.Lists.{covers_on, covers_odd, covers_cases}
-use Rattle.outline_slab.specs.Rules.{IsInSpan, IsWithin, edge, no_edge}
-use Rattle.outline_slab.specs.Places.{IsPlace}
+use Rattle.plane.specs.Covering.{Edge, IsOn, IsOdd, Between, Covers, crossing, crossings, down_crossing, edges_of}
+use Rattle.plane.proofs.Counts.{less_true, less_false, most_true, most_false, none_up}
+use Rattle.plane.proofs.Lists.{covers_on, covers_odd, covers_cases}
+use Rattle.outline_slab.specs.Rules.{IsInSpan, IsPointWithin, edge, no_edge}
+use Rattle.outline_slab.specs.Places.{IsPlaceAt}
 use Rattle.outline_slab.proofs.Chain.{edges_length}
 
 -- ---- ranges
@@ -61,7 +61,7 @@ both_is false false u h = refl
 both_is false true false h = refl
 both_is false true true h = sym (h.1 (refl, refl))
 
-pub down_is : (a b : Point) (p : Point) (k : ℕ) (q : PlanePoint) (r s t u v : Bool) (run rise : ℤ) → IsPlace p k q
+pub down_is : (a b : Point) (p : Point) (k : ℕ) (q : PlanePoint) (r s t u v : Bool) (run rise : ℤ) → IsPlaceAt p k q
     → run ≡ (b.x -ℤ a.x) *ℤ (p.y -ℤ pos k *ℤ a.y) → rise ≡ (b.y -ℤ a.y) *ℤ (p.x -ℤ pos k *ℤ a.x)
     → IsTrue r ↔ (IsTrue t × IsTrue s) → IsTrue s ↔ (IsTrue u × IsTrue v)
     → IsTrue t ↔ ((pos k *ℤ a.y) ≤ℤ p.y) → IsTrue u ↔ (p.y <ℤ (pos k *ℤ b.y)) → IsTrue v ↔ (run <ℤ rise)
@@ -79,7 +79,7 @@ unfolding crossing
 up_crosses e q n h d = let z = none_up e.start e.finish q h in omega arith
 
 -- ---- on an edge
-pub on_is : (e : Edge) (p : Point) (k : ℕ) (q : PlanePoint) (r s t u v : Bool) (run rise : ℤ) → IsPlace p k q
+pub on_is : (e : Edge) (p : Point) (k : ℕ) (q : PlanePoint) (r s t u v : Bool) (run rise : ℤ) → IsPlaceAt p k q
     → run ≡ (e.finish.x -ℤ e.start.x) *ℤ (p.y -ℤ pos k *ℤ e.start.y) → rise ≡ (e.finish.y -ℤ e.start.y) *ℤ (p.x -ℤ pos k *ℤ e.start.x)
     → IsTrue r ↔ (IsTrue t × IsTrue s) → IsTrue s ↔ (IsTrue u × IsTrue v)
     → IsTrue t ↔ (rise ≡ run) → IsTrue u ↔ Between (pos k *ℤ e.start.x) (pos k *ℤ e.finish.x) p.x → IsTrue v ↔ Between (pos k *ℤ e.start.y) (pos k *ℤ e.finish.y) p.y
@@ -124,7 +124,7 @@ passed_is cs q i h o =
     covers_on (edges_of cs) q (i, edge cs i, l, get_or_default (edges_of cs) i (edge cs i) no_edge l, o)
 
 -- units of 2 nm within a quarter of a metre are within the span of nanometres
-pub units_in_span : (cs : List Point) → All (IsWithin 250000000) cs → All IsInSpan cs
+pub units_in_span : (cs : List Point) → All (IsPointWithin 250000000) cs → All IsInSpan cs
 units_in_span cs h = λ k d l. let w = h k d l in record {
   x = wider 250000000 500000000 _ (omega arith) w.x;
   y = wider 250000000 500000000 _ (omega arith) w.y;

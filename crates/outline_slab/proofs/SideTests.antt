@@ -2,10 +2,10 @@
 use Rattle.std.proofs.Common.{◌≡◌, sym, ap, inl, inr, arith, Bool, subst}
 use Rattle.std.specs.Prelude.{ℤ, pos, ◌-ℤ◌, ◌↔◌, IsTrue}
 use Rattle.std.proofs.lemmas.Int.{ints}
-use Rattle.covering.specs.Covering.{Edge}
-use Rattle.covering.specs.Edges.{IsOctilinear}
+use Rattle.plane.specs.Covering.{Edge}
+use Rattle.plane.specs.Edges.{IsOctilinear}
 use Rattle.outline_slab.specs.Rules.{IsSide}
-use Rattle.outline_slab.specs.Side.{IsSameSign, IsEighth}
+use Rattle.outline_slab.specs.Inner.Side.{IsSameSign, IsEighth}
 use Rattle.outline_slab.proofs.Chain.{same_point}
 
 eighth_from : (e : Edge) → IsOctilinear e → IsEighth (e.finish.x -ℤ e.start.x) (e.finish.y -ℤ e.start.y)

@@ -9,15 +9,15 @@ use Rattle.plane.specs.Plane.{PlanePoint}
 use Rattle.plane.specs.Narrow.{IsNearZero}
 use Rattle.grid_num.specs.declared.Point.{Point}
 use Rattle.octagon.specs.Bounded.{IsInReach}
-use Rattle.covering.specs.Covering.{Edge, IsOn, edges_of}
-use Rattle.covering.specs.Edges.{IsOctilinear, AreOctilinear}
-use Rattle.slabs.specs.Slabs.{IsOneOf, IsOffRows, AreClosed, starts}
+use Rattle.plane.specs.Covering.{Edge, IsOn, edges_of}
+use Rattle.plane.specs.Edges.{IsOctilinear, AreOctilinear}
+use Rattle.slabs.specs.Slabs.{IsAmong, IsOffRows, AreClosed, starts}
 use Rattle.slabs.proofs.Closed.{chain_law}
 use Rattle.slabs.proofs.Cutting.{one_is}
 use Rattle.slabs.proofs.Order.{all_head, all_tail}
 use Rattle.slabs.proofs.Outside.{ends_all}
-use Rattle.outline_slab.specs.Rules.{IsSide, IsSimple, IsKept, IsWithin, AreCrossing, NoneCrossing, edge, no_edge}
-use Rattle.outline_slab.specs.Cuts.{IsSound}
+use Rattle.outline_slab.specs.Rules.{IsSide, IsSimple, IsKeptOutline, IsPointWithin, AreCrossing, NoneCrossing, edge, no_edge}
+use Rattle.outline_slab.specs.Cuts.{IsSoundEdge}
 use Rattle.outline_slab.proofs.Chain.{edges_length}
 
 all_octilinear : (es : List Edge) → All IsSide es → AreOctilinear es
@@ -35,7 +35,7 @@ one_octilinear (e ∷ es) all = at (one_octilinear es all.1)
     at rest (suc k) d h = rest k d (omega (arith, h))
 
 -- the row where an edge starts
-start_row : (es : List Edge) (i : ℕ) → i < length es → IsOneOf (starts es) (get_or es i no_edge).start.y
+start_row : (es : List Edge) (i : ℕ) → i < length es → IsAmong (starts es) (get_or es i no_edge).start.y
 start_row es i h =
     let n = length-map es (λ (e : Edge). e.start.y) in
     let e = get_or-map (λ (e : Edge). e.start.y) es i no_edge (get_or es i no_edge).start.y h in
@@ -57,10 +57,10 @@ crossing_pair cs i j p h g off x y =
       not_start = λ q. off_corner (edges_of cs) p i off (omega (arith, n, h)) q.end.y;
     }
 
-same_read : (es : List Edge) (e : Edge) (a : IsOneOf es e) → (get_or es a.0 no_edge) ≡ e
+same_read : (es : List Edge) (e : Edge) (a : IsAmong es e) → (get_or es a.0 no_edge) ≡ e
 same_read es e a = get_or_default es a.0 no_edge a.1 a.2 ∙ (a.3 ∙ a.4)
 
-apart : (cs : List Point) → NoneCrossing cs → (e f : Edge) (p : PlanePoint) → IsOneOf (edges_of cs) e → IsOneOf (edges_of cs) f → IsOn e p → IsOn f p → IsOffRows (starts (edges_of cs)) p → e ≡ f
+apart : (cs : List Point) → NoneCrossing cs → (e f : Edge) (p : PlanePoint) → IsAmong (edges_of cs) e → IsAmong (edges_of cs) f → IsOn e p → IsOn f p → IsOffRows (starts (edges_of cs)) p → e ≡ f
 apart cs none e f p a b oe of off =
     let n = edges_length cs in
     let i = a.0 in
@@ -88,11 +88,11 @@ closed_chain cs s = chain_law (starts (edges_of cs)) cs (all_octilinear (edges_o
 near_more : (n m : ℕ) (z : ℤ) → n ≤ m → IsNearZero n z → IsNearZero m z
 near_more n m z h a = record { low = omega (arith, ints, h, a.low); high = omega (arith, ints, h, a.high) }
 
-reach_of : (p : Point) → IsWithin 250000000 p → IsInReach p
+reach_of : (p : Point) → IsPointWithin 250000000 p → IsInReach p
 reach_of p w = record { x = near_more 250000000 _ p.x (omega arith) w.x; y = near_more 250000000 _ p.y (omega arith) w.y }
 
-pub sound_chain : (cs : List Point) → IsKept cs → All IsSound (edges_of cs)
+pub sound_chain : (cs : List Point) → IsKeptOutline cs → All IsSoundEdge (edges_of cs)
 sound_chain cs k = λ i d h.
     let o = one_octilinear (edges_of cs) (all_octilinear (edges_of cs) k.simple.sides) i d h in
-    let w = ends_all (IsWithin 250000000) cs k.within i d h in
+    let w = ends_all (IsPointWithin 250000000) cs k.within i d h in
     record { octilinear = o; reached = record { start = reach_of (get_or (edges_of cs) i d).start w.0; finish = reach_of (get_or (edges_of cs) i d).finish w.1 } }

@@ -9,23 +9,23 @@ use Rattle.plane.proofs.Tight.{tight_law, same_points}
 use Rattle.plane.proofs.Equal.{equal}
 use Rattle.plane.proofs.Moved.{grid_law, tight_box_law}
 use Rattle.grid_num.specs.declared.Point.{Point}
-use Rattle.octagon.specs.Bounded.{IsInRange}
+use Rattle.octagon.specs.Bounded.{AreInRange}
 use Rattle.slabs.specs.Outside.{IsFrame, IsAtMost}
-use Rattle.outline_slab.specs.Rules.{IsWithin}
-use Rattle.outline_slab.specs.Cuts.{IsNearby}
+use Rattle.outline_slab.specs.Rules.{IsPointWithin}
+use Rattle.outline_slab.specs.Cuts.{IsWithinHalfMetre}
 
 abbrev wide : Bounds
 wide = box_of (neg_ℤ (pos 250000000)) (pos 250000000) (neg_ℤ (pos 250000000)) (pos 250000000)
 
-within_wide : (p : Point) → IsWithin 250000000 p → Within wide p.x p.y
+within_wide : (p : Point) → IsPointWithin 250000000 p → Within wide p.x p.y
 within_wide p w =
     let a = w.x in
     let b = w.y in
     record { x_low = a.low; x_high = a.high; y_low = b.low; y_high = b.high; s_low = omega (arith, ints); s_high = omega (arith, ints); d_low = omega (arith, ints); d_high = omega (arith, ints) }
 
 -- each bound of the frame is attained, and lies within the vertices' reach
-pub frame_nearby : (cs : List Point) (f : Bounds) → All (IsWithin 250000000) cs → IsTight f
-    → ((b : Bounds) (p : PlanePoint) → All (λ q. Within b q.x q.y) cs → In f p → In b p) → IsNearby f
+pub frame_nearby : (cs : List Point) (f : Bounds) → All (IsPointWithin 250000000) cs → IsTight f
+    → ((b : Bounds) (p : PlanePoint) → All (λ q. Within b q.x q.y) cs → In f p → In b p) → IsWithinHalfMetre f
 frame_nearby cs f all t least =
     let a = (tight_law f).0 t in
     let at : (x y : ℤ) → Within f x y → Within wide x y = λ x y w.
@@ -52,7 +52,7 @@ pub record IsRound (f : Bounds) (l r t b : ℤ) : Type 0 where
   pub top : t ≡ f.y0 -ℤ pos 1
   pub bottom : b ≡ f.y1 +ℤ pos 1
 
-pub round_near : (f : Bounds) (l r t b : ℤ) → IsNearby f → IsRound f l r t b
+pub round_near : (f : Bounds) (l r t b : ℤ) → IsWithinHalfMetre f → IsRound f l r t b
     → (IsNearZero 250000001 l × IsNearZero 250000001 r) × (IsNearZero 250000001 t × IsNearZero 250000001 b)
 round_near f l r t b n e =
     let p = n.x0 in
@@ -67,7 +67,7 @@ round_near f l r t b n e =
       (record { low = omega (arith, ints); high = omega (arith, ints) }, record { low = omega (arith, ints); high = omega (arith, ints) }),
     )
 
-pub round_range : (f c : Bounds) (l r t b : ℤ) → IsNearby f → IsRound f l r t b → c ≡ box_of l r t b → IsInRange c
+pub round_range : (f c : Bounds) (l r t b : ℤ) → IsWithinHalfMetre f → IsRound f l r t b → c ≡ box_of l r t b → AreInRange c
 round_range f c l r t b n e is = rw is
     (let w = round_near f l r t b n e in
     let x = w.0.0 in

@@ -5,18 +5,20 @@ use Rattle.std.specs.List.{All}
 use Rattle.plane.specs.Plane.{PlanePoint, IsSame, grid_point}
 use Rattle.plane.specs.Narrow.{IsNearZero}
 use Rattle.grid_num.specs.declared.Point.{Point}
-use Rattle.covering.specs.Covering.{Edge, IsOn, edges_of}
-use Rattle.covering.specs.Edges.{IsOctilinear}
+use Rattle.plane.specs.Covering.{Edge, IsOn, edges_of}
+pub use Rattle.plane.specs.Covering.{no_corner, no_edge}
+use Rattle.plane.specs.Edges.{IsOctilinear}
 
 -- both coordinates are at most m away from 0
-pub record IsWithin (m : ℕ) (p : Point) : Type 0 where
+pub record IsPointWithin (m : ℕ) (p : Point) : Type 0 where
   pub x : IsNearZero m p.x
   pub y : IsNearZero m p.y
 
 -- the point lies within half a metre of 0, in nanometres
 abbrev pub IsInSpan : Point → Type 0
-IsInSpan p = IsWithin 500000000 p
+IsInSpan p = IsPointWithin 500000000 p
 
+-- the number is even
 abbrev pub IsEven : ℤ → Type 0
 IsEven z = (h : ℤ) × (z ≡ h +ℤ h)
 
@@ -30,22 +32,17 @@ pub record IsSide (e : Edge) : Type 0 where
   pub goes : e.start ≡ e.finish → ⊥
   pub octilinear : IsOctilinear e
 
-abbrev pub no_corner : Point
-no_corner = record { x = pos 0; y = pos 0 }
-
-abbrev pub no_edge : Edge
-no_edge = record { start = no_corner; finish = no_corner }
-
+-- edge i of a chain
 abbrev pub edge : List Point → ℕ → Edge
 edge cs i = slice_index_or (edges_of cs) i no_edge
 
 -- of n edges around a chain, edge j goes on where edge i ends
-abbrev pub IsNext : ℕ → ℕ → ℕ → Type 0
-IsNext n i j = (j ≡ suc i) ⊎ ((suc i ≡ n) × (j ≡ 0))
+abbrev pub IsNextAround : ℕ → ℕ → ℕ → Type 0
+IsNextAround n i j = (j ≡ suc i) ⊎ ((suc i ≡ n) × (j ≡ 0))
 
 -- p is the corner at which edge j goes on from edge i: the common end of the two neighbours
 pub record IsJoint (cs : List Point) (i j : ℕ) (p : PlanePoint) : Type 0 where
-  pub next : IsNext (length cs) i j
+  pub next : IsNextAround (length cs) i j
   pub end : IsSame (grid_point (edge cs j).start.x (edge cs j).start.y) p
 
 -- edges i and j have a point of the plane in common, other than the common end of neighbours
@@ -56,6 +53,7 @@ pub record AreCrossing (cs : List Point) (i j : ℕ) : Type 0 where
   pub not_end : IsJoint cs i j at → ⊥
   pub not_start : IsJoint cs j i at → ⊥
 
+-- no two edges do
 abbrev pub NoneCrossing : List Point → Type 0
 NoneCrossing cs = (i j : ℕ) → i < j → j < length cs → AreCrossing cs i j → ⊥
 
@@ -72,6 +70,6 @@ pub record IsOutline (cs : List Point) : Type 0 where
   pub simple : IsSimple cs
 
 -- what is kept of an outline, in units of 2 nm
-pub record IsKept (cs : List Point) : Type 0 where
+pub record IsKeptOutline (cs : List Point) : Type 0 where
   pub simple : IsSimple cs
-  pub within : All (IsWithin 250000000) cs
+  pub within : All (IsPointWithin 250000000) cs

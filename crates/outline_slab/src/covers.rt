@@ -4,10 +4,10 @@ ghost use Rattle.std.specs.Prelude.{◌≡◌, ℕ, ◌<◌, ◌≤◌, ◌^◌,
 ghost use Rattle.std.specs.List.{All};
 ghost use Rattle.plane.specs.Plane.{PlanePoint};
 ghost use Rattle.plane.specs.Narrow.{IsNearZero};
-ghost use Rattle.covering.specs.Covering.{IsOn, IsOdd, Between, Covers, crossing, down_crossing, edges_of};
-ghost use Rattle.outline_slab.specs.Rules.{IsInSpan, IsWithin};
-ghost use Rattle.outline_slab.specs.Side.{edge_of};
-ghost use Rattle.outline_slab.specs.Places.{IsPlace};
+ghost use Rattle.plane.specs.Covering.{IsOn, IsOdd, Between, Covers, crossing, down_crossing, edges_of};
+ghost use Rattle.outline_slab.specs.Rules.{IsInSpan, IsPointWithin};
+ghost use Rattle.outline_slab.specs.Inner.Side.{side_edge};
+ghost use Rattle.outline_slab.specs.Places.{IsPlaceAt};
 
 use crate::Outline;
 use crate::side::{Side, both, side_at};
@@ -18,8 +18,8 @@ impl Outline {
     pub fn covers(&self, p: Point, scale: u32) -> bool
         requires some { 1 ≤ scale }
         requires fine { scale ≤ 1024 }
-        requires reach { IsWithin (2 ^ 50) p }
-        ensures { (q : PlanePoint) → IsPlace p scale q → IsTrue result ↔ Covers (edges_of self.now) q }
+        requires reach { IsPointWithin (2 ^ 50) p }
+        ensures { (q : PlanePoint) → IsPlaceAt p scale q → IsTrue result ↔ Covers (edges_of self.now) q }
     {
         is_covered(self.vertices.as_slice(), p, scale)
     }
@@ -27,9 +27,9 @@ impl Outline {
 
 fn is_covered(corners: &[Point], p: Point, scale: u32) -> bool
     requires fine { scale ≤ 1024 }
-    requires reach { IsWithin (2 ^ 50) p }
+    requires reach { IsPointWithin (2 ^ 50) p }
     requires span { All IsInSpan corners.now }
-    ensures { (q : PlanePoint) → IsPlace p scale q → IsTrue result ↔ Covers (edges_of corners.now) q }
+    ensures { (q : PlanePoint) → IsPlaceAt p scale q → IsTrue result ↔ Covers (edges_of corners.now) q }
 {
     let mut inside = false;
     'each: for i in 0..corners.len() {
@@ -62,8 +62,8 @@ impl Side {
         requires start { IsInSpan self.start }
         requires finish { IsInSpan self.finish }
         requires fine { scale ≤ 1024 }
-        requires reach { IsWithin (2 ^ 50) p }
-        ensures { (q : PlanePoint) → IsPlace p scale q → IsTrue result ↔ IsOn (edge_of self) q }
+        requires reach { IsPointWithin (2 ^ 50) p }
+        ensures { (q : PlanePoint) → IsPlaceAt p scale q → IsTrue result ↔ IsOn (side_edge self) q }
     {
         let line = self.lean(p, scale).is_line();
         let across = is_between(p.x, scale, self.start.x, self.finish.x);
@@ -76,8 +76,8 @@ impl Side {
         requires start { IsInSpan self.start }
         requires finish { IsInSpan self.finish }
         requires fine { scale ≤ 1024 }
-        requires reach { IsWithin (2 ^ 50) p }
-        ensures { (q : PlanePoint) → IsPlace p scale q → crossing q (edge_of self) ≡ (if result then 1 else 0) }
+        requires reach { IsPointWithin (2 ^ 50) p }
+        ensures { (q : PlanePoint) → IsPlaceAt p scale q → crossing q (side_edge self) ≡ (if result then 1 else 0) }
     {
         if self.start.y <= self.finish.y {
             self.crosses_down(p, scale)
@@ -91,8 +91,8 @@ impl Side {
         requires start { IsInSpan self.start }
         requires finish { IsInSpan self.finish }
         requires fine { scale ≤ 1024 }
-        requires reach { IsWithin (2 ^ 50) p }
-        ensures { (q : PlanePoint) → IsPlace p scale q → down_crossing self.start self.finish q ≡ (if result then 1 else 0) }
+        requires reach { IsPointWithin (2 ^ 50) p }
+        ensures { (q : PlanePoint) → IsPlaceAt p scale q → down_crossing self.start self.finish q ≡ (if result then 1 else 0) }
     {
         let begun = is_from(p.y, scale, self.start.y);
         let open = is_before(p.y, scale, self.finish.y);
@@ -104,7 +104,7 @@ impl Side {
         requires start { IsInSpan self.start }
         requires finish { IsInSpan self.finish }
         requires fine { scale ≤ 1024 }
-        requires reach { IsWithin (2 ^ 50) p }
+        requires reach { IsPointWithin (2 ^ 50) p }
         ensures run { result.run ≡ (self.finish.x -ℤ self.start.x) *ℤ (p.y -ℤ pos scale *ℤ self.start.y) }
         ensures rise { result.rise ≡ (self.finish.y -ℤ self.start.y) *ℤ (p.x -ℤ pos scale *ℤ self.start.x) }
     {

@@ -1,10 +1,10 @@
 // Edges of a closed chain that have a point in common.
-ghost use Rattle.std.specs.Prelude.{◌≡◌, ℕ, ◌<◌, ◌≤◌, ◌↔◌, length, IsTrue, IfOk, MatchOption};
+ghost use Rattle.std.specs.Prelude.{◌<◌, ◌≤◌, ◌↔◌, length, IsTrue, IfOk};
 ghost use Rattle.std.specs.List.{All};
-ghost use Rattle.covering.specs.Covering.{edges_of};
-ghost use Rattle.outline_slab.specs.Rules.{IsInSpan, IsSide, AreCrossing, NoneCrossing};
-ghost use Rattle.outline_slab.specs.Faults.{IsLeastCrossing};
-ghost use Rattle.outline_slab.specs.Search.{IsRow, AreRows, IsBeforeBest, IsFound, Misses, MissesLater, IsBetter};
+ghost use Rattle.plane.specs.Covering.{edges_of};
+ghost use Rattle.outline_slab.specs.Rules.{IsInSpan, IsSide, AreCrossing};
+ghost use Rattle.outline_slab.specs.Faults.{IsFoundCrossing};
+ghost use Rattle.outline_slab.specs.Inner.Search.{IsRow, AreRowsOfEdges, IsBeforeBest, IsFound, Misses, MissesLater, IsBetterFind};
 
 use crate::rows::{Row, from_the_top};
 use crate::side::side_at;
@@ -44,7 +44,7 @@ fn with_pair(
     requires found { IsFound corners.now best }
     requires order { i < j }
     requires within { j < length corners.now }
-    ensures better { IsBetter corners.now best result }
+    ensures better { IsBetterFind corners.now best result }
     ensures missed { Misses corners.now result i j }
 {
     if is_before(best, i, j) && crosses(corners, i, j) {
@@ -76,7 +76,7 @@ fn with_either(
     requires found { IsFound corners.now best }
     requires first { i < length corners.now }
     requires second { j < length corners.now }
-    ensures better { IsBetter corners.now best result }
+    ensures better { IsBetterFind corners.now best result }
     ensures missed { Misses corners.now result i j × Misses corners.now result j i }
 {
     if i < j {
@@ -101,7 +101,7 @@ fn with_rows(
     requires found { IsFound corners.now best }
     requires first { IsRow corners.now first.now }
     requires second { IsRow corners.now second.now }
-    ensures better { IsBetter corners.now best result }
+    ensures better { IsBetterFind corners.now best result }
     ensures missed { Misses corners.now result first.now.index second.now.index × Misses corners.now result second.now.index first.now.index }
 {
     if !first.hull.meets(&second.hull) {
@@ -120,10 +120,10 @@ fn with_later(
     requires three { 3 ≤ length corners.now }
     requires span { All IsInSpan corners.now }
     requires sides { All IsSide (edges_of corners.now) }
-    requires rows { AreRows corners.now rows.now }
+    requires rows { AreRowsOfEdges corners.now rows.now }
     requires found { IsFound corners.now best }
     requires within { place < length rows.now }
-    ensures better { IsBetter corners.now best result }
+    ensures better { IsBetterFind corners.now best result }
     ensures missed { MissesLater corners.now rows.now result place (length rows.now) }
 {
     let row = &rows[place];
@@ -142,7 +142,7 @@ pub fn least_crossing(alloc: Global, corners: &[Point]) -> Result<Option<(usize,
     requires three { 3 ≤ length corners.now }
     requires span { All IsInSpan corners.now }
     requires sides { All IsSide (edges_of corners.now) }
-    ensures { IfOk result (λ found. MatchOption found (NoneCrossing corners.now) (λ pair. IsLeastCrossing corners.now pair.0 pair.1)) }
+    ensures { IfOk result (λ found. IsFoundCrossing corners.now found) }
 {
     let rows = from_the_top(alloc, corners)?;
     let mut best = None;

@@ -1,12 +1,11 @@
 // Sides cut at all rows, so that each cut passes one slab, from a row down to the next one.
-ghost use Rattle.std.specs.Prelude.{◌≡◌, ◌<◌, ◌<ℤ◌, ◌++◌, [], ◌∷◌, List, ℤ, IfOk};
+ghost use Rattle.std.specs.Prelude.{◌≡◌, ◌<◌, ◌<ℤ◌, ℤ, IfOk};
 ghost use Rattle.std.specs.List.{All};
-ghost use Rattle.covering.specs.Covering.{Edge};
-ghost use Rattle.covering.specs.Edges.{IsOctilinear};
-ghost use Rattle.slabs.specs.Slabs.{IsAt, IsOneOf, AreCuts, AreInOrder};
-ghost use Rattle.slabs.specs.Cutting.{AreAdded};
-ghost use Rattle.outline_slab.specs.Side.{edge_of};
-ghost use Rattle.outline_slab.specs.Cuts.{all_edges, AreRising, IsReached, IsSound, IsInRows, HasRows};
+ghost use Rattle.plane.specs.Edges.{IsOctilinear};
+ghost use Rattle.slabs.specs.Slabs.{IsAt, AreCuts, AreCutsInOrder};
+ghost use Rattle.slabs.specs.Inner.Cutting.{AreAdded};
+ghost use Rattle.outline_slab.specs.Inner.Side.{side_edge};
+ghost use Rattle.outline_slab.specs.Cuts.{all_edges, AreRising, IsEdgeInReach, IsSoundEdge, IsInRows, HasRows, AddsCuts, KeepsCuts};
 
 use crate::side::Side;
 use crate::slab_rows::next_row;
@@ -16,12 +15,12 @@ use std::alloc::Global;
 impl Side {
     // Where a side that goes down, and is not level, passes the row.
     fn point_at(self, row: i64) -> Point
-        requires reach { IsReached (edge_of self) }
-        requires octilinear { IsOctilinear (edge_of self) }
+        requires reach { IsEdgeInReach (side_edge self) }
+        requires octilinear { IsOctilinear (side_edge self) }
         requires after { self.start.y <ℤ row }
         requires before { row <ℤ self.finish.y }
         ensures row { result.y ≡ row }
-        ensures place { IsAt (edge_of self) 1 row result.x }
+        ensures place { IsAt (side_edge self) 1 row result.x }
     {
         let down = row - self.start.y;
         let x = if self.start.x < self.finish.x {
@@ -39,9 +38,9 @@ impl Side {
 fn with_cuts_down(rows: &[i64], side: Side, cuts: Vec<Side>) -> Result<Vec<Side>, Memory>
     requires rising { AreRising rows.now }
     requires down { side.start.y <ℤ side.finish.y }
-    requires sound { IsSound (edge_of side) }
-    requires ends { IsInRows rows.now (edge_of side) }
-    ensures { IfOk result (λ v. AreAdded rows.now (edge_of side) (all_edges cuts.items) (all_edges v.items)) }
+    requires sound { IsSoundEdge (side_edge side) }
+    requires ends { IsInRows rows.now (side_edge side) }
+    ensures { IfOk result (λ v. AreAdded rows.now (side_edge side) (all_edges cuts.items) (all_edges v.items)) }
 {
     let mut cuts = cuts;
     let mut rest = side;
@@ -65,9 +64,9 @@ fn with_cuts_down(rows: &[i64], side: Side, cuts: Vec<Side>) -> Result<Vec<Side>
 // The cuts with those of a side. A level side has none.
 fn with_cuts(rows: &[i64], side: Side, cuts: Vec<Side>) -> Result<Vec<Side>, Memory>
     requires rising { AreRising rows.now }
-    requires sound { IsSound (edge_of side) }
-    requires ends { IsInRows rows.now (edge_of side) }
-    ensures { IfOk result (λ v. (es : List Edge) → AreCuts rows.now es (all_edges cuts.items) → AreCuts rows.now (es ++ edge_of side ∷ []) (all_edges v.items)) }
+    requires sound { IsSoundEdge (side_edge side) }
+    requires ends { IsInRows rows.now (side_edge side) }
+    ensures { IfOk result (λ v. AddsCuts rows.now (side_edge side) (all_edges cuts.items) (all_edges v.items)) }
 {
     if side.start.y < side.finish.y {
         return with_cuts_down(rows, side, cuts);
@@ -81,7 +80,7 @@ fn with_cuts(rows: &[i64], side: Side, cuts: Vec<Side>) -> Result<Vec<Side>, Mem
 /// All cuts of the sides.
 pub fn cuts_of(alloc: Global, rows: &[i64], sides: &[Side]) -> Result<Vec<Side>, Memory>
     requires rows { HasRows rows.now (all_edges sides.now) }
-    requires sound { All IsSound (all_edges sides.now) }
+    requires sound { All IsSoundEdge (all_edges sides.now) }
     ensures { IfOk result (λ v. AreCuts rows.now (all_edges sides.now) (all_edges v.items)) }
 {
     let mut cuts = Vec::new(alloc);
@@ -93,8 +92,8 @@ pub fn cuts_of(alloc: Global, rows: &[i64], sides: &[Side]) -> Result<Vec<Side>,
 
 /// The cuts from the top, and in each slab from the left.
 pub fn in_order(cuts: Vec<Side>) -> Result<Vec<Side>, Memory>
-    ensures cuts { IfOk result (λ v. (rows : List ℤ) (es : List Edge) → AreCuts rows es (all_edges cuts.items) → AreCuts rows es (all_edges v.items)) }
-    ensures order { IfOk result (λ v. AreInOrder (all_edges v.items)) }
+    ensures cuts { IfOk result (λ v. KeepsCuts (all_edges cuts.items) (all_edges v.items)) }
+    ensures order { IfOk result (λ v. AreCutsInOrder (all_edges v.items)) }
 {
     let mut cuts = cuts;
     cuts.sort_by_key(|cut| (

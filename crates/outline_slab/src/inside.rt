@@ -1,13 +1,13 @@
 // Octagons of what an outline covers, and of what it leaves of a frame.
-ghost use Rattle.std.specs.Prelude.{◌≡◌, ◌↔◌, ◌++◌, pos, ◌+ℤ◌, ◌-ℤ◌, Any, IfOk};
+ghost use Rattle.std.specs.Prelude.{◌≡◌, ◌++◌, pos, ◌+ℤ◌, ◌-ℤ◌, IfOk};
 ghost use Rattle.std.specs.List.{All};
-ghost use Rattle.plane.specs.Plane.{Bounds, PlanePoint, In, IsOct, box_of};
+ghost use Rattle.plane.specs.Plane.{Bounds, IsOct, box_of};
 ghost use Rattle.plane.specs.Narrow.{IsNearZero};
 ghost use Rattle.octagon.specs.Bounded.{bounds_of};
-ghost use Rattle.covering.specs.Covering.{Covers, edges_of};
-ghost use Rattle.covering.specs.Corners.{box_corners};
+ghost use Rattle.plane.specs.Covering.{Covers, edges_of};
+ghost use Rattle.plane.specs.Corners.{box_corners};
 ghost use Rattle.slabs.specs.Outside.{IsFrame, IsAtMost, IsOutside};
-ghost use Rattle.outline_slab.specs.Cuts.{all_edges, IsNearby};
+ghost use Rattle.outline_slab.specs.Cuts.{all_edges, IsWithinHalfMetre, HaveJust};
 
 use crate::Outline;
 use crate::side::{Side, edge_at};
@@ -19,7 +19,7 @@ use std::alloc::Global;
 impl Outline {
     /// Octagons of just the points of the plane that the outline covers, its edges counted in.
     pub fn inner(&self, alloc: Global) -> Result<Vec<Oct>, Memory>
-        ensures points { IfOk result (λ v. (p : PlanePoint) → Any (λ o. In o p) v.items ↔ Covers (edges_of self.now) p) }
+        ensures points { IfOk result (λ v. HaveJust v.items (Covers (edges_of self.now))) }
         ensures octs { IfOk result (λ v. All IsOct v.items) }
     {
         let sides = with_sides(self.vertices.as_slice(), Vec::new(alloc))?;
@@ -43,7 +43,7 @@ impl Outline {
     /// outline's edges counted in.
     pub fn outer(&self, alloc: Global, frame: &Oct) -> Result<Vec<Oct>, Memory>
         requires { IsFrame self.now frame.now }
-        ensures points { IfOk result (λ v. (p : PlanePoint) → Any (λ o. In o p) v.items ↔ IsOutside (edges_of self.now) frame.now p) }
+        ensures points { IfOk result (λ v. HaveJust v.items (IsOutside (edges_of self.now) frame.now)) }
         ensures octs { IfOk result (λ v. All IsOct v.items) }
     {
         let sides = with_sides(self.vertices.as_slice(), Vec::new(alloc))?;
@@ -63,7 +63,7 @@ struct Rim {
 
 // One unit round an octagon on each side.
 fn rim_round(frame: &Oct) -> Rim
-    requires { IsNearby frame.now }
+    requires { IsWithinHalfMetre frame.now }
     ensures left { result.left ≡ frame.now.x0 -ℤ pos 1 }
     ensures right { result.right ≡ frame.now.x1 +ℤ pos 1 }
     ensures top { result.top ≡ frame.now.y0 -ℤ pos 1 }

@@ -6,11 +6,9 @@
 ghost use Rattle.std.specs.Prelude.{◌≡◌};
 ghost use Rattle.std.specs.List.{All};
 ghost use Rattle.plane.specs.Plane.{Bounds, PlanePoint, Within, In, IsOct};
-ghost use Rattle.outline_slab.specs.Rules.{IsSimple, IsWithin};
-ghost use Rattle.outline_slab.specs.Cuts.{IsNearby};
+ghost use Rattle.outline_slab.specs.Rules.{IsSimple, IsPointWithin};
+ghost use Rattle.outline_slab.specs.Cuts.{IsWithinHalfMetre};
 
-#[cfg(test)]
-mod area_tests;
 mod covers;
 mod crossing;
 mod cuts;
@@ -23,8 +21,6 @@ mod side;
 mod slab_octs;
 mod slab_rows;
 mod sweep;
-#[cfg(test)]
-mod tests;
 
 pub use error::{OutlineError, OutlineFault};
 use grid_num::Point;
@@ -41,13 +37,13 @@ pub struct Outline {
 impl Model for Outline {
     ghost use Rattle.std.specs.Prelude.{List};
     ghost use Rattle.grid_num.specs.declared.Point.{Point};
-    ghost use Rattle.outline_slab.specs.Rules.{IsKept};
+    ghost use Rattle.outline_slab.specs.Rules.{IsKeptOutline};
 
     ghost Value = { List Point };
 
     ghost view = { λ a. a.vertices.items };
 
-    ghost invariant = { λ a. IsKept a.vertices.items };
+    ghost invariant = { λ a. IsKeptOutline a.vertices.items };
 }
 
 impl Outline {
@@ -55,7 +51,7 @@ impl Outline {
     pub fn vertices(&self) -> &[Point]
         ensures value { result.now ≡ self.now }
         ensures simple { IsSimple self.now }
-        ensures within { All (IsWithin 250000000) self.now }
+        ensures within { All (IsPointWithin 250000000) self.now }
     {
         self.vertices.as_slice()
     }
@@ -65,7 +61,7 @@ impl Outline {
         ensures holds { All (λ q. Within result q.x q.y) self.now }
         ensures least { (b : Bounds) (p : PlanePoint) → All (λ q. Within b q.x q.y) self.now → In result p → In b p }
         ensures oct { IsOct result }
-        ensures near { IsNearby result }
+        ensures near { IsWithinHalfMetre result }
     {
         Oct::of_points(self.vertices.as_slice())
     }

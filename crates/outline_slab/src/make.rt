@@ -2,10 +2,10 @@
 ghost use Rattle.std.specs.Prelude.{◌≡◌, ◌<◌, ◌≤◌, ◌↔◌, pos, ◌+ℤ◌, ◌-ℤ◌, ◌≤ℤ◌, length, map, IsTrue, IfOk, IfErr, MatchOption};
 ghost use Rattle.std.specs.List.{All};
 ghost use Rattle.plane.specs.Narrow.{IsNearZero};
-ghost use Rattle.covering.specs.Covering.{edges_of};
-ghost use Rattle.covering.specs.Units.{finer};
+ghost use Rattle.plane.specs.Covering.{edges_of};
+ghost use Rattle.plane.specs.Units.{finer};
 ghost use Rattle.grid_num.specs.declared.Point.{Point as point};
-ghost use Rattle.outline_slab.specs.Rules.{IsInSpan, IsWithin, IsEven, IsOnGrid, IsSide, IsOutline};
+ghost use Rattle.outline_slab.specs.Rules.{IsInSpan, IsPointWithin, IsEven, IsOnGrid, IsSide, IsOutline};
 ghost use Rattle.outline_slab.specs.Faults.{IsFirstOff, IsCause};
 
 use crate::Outline;

@@ -1,9 +1,9 @@
 // The rows that the edges of a closed chain take.
 ghost use Rattle.std.specs.Prelude.{◌≡◌, ◌<◌, ◌↔◌, ◌≤ℤ◌, ◌<ℤ◌, length, IsTrue, IfOk};
 ghost use Rattle.std.specs.List.{All};
-ghost use Rattle.covering.specs.Covering.{edges_of};
+ghost use Rattle.plane.specs.Covering.{edges_of};
 ghost use Rattle.outline_slab.specs.Rules.{IsInSpan, IsSide};
-ghost use Rattle.outline_slab.specs.Search.{AreEdgeRows, AreRows, IsRow};
+ghost use Rattle.outline_slab.specs.Inner.Search.{AreEdgeRows, AreRowsOfEdges, IsRow};
 
 use crate::side::side_at;
 use grid_num::{Memory, Point};
@@ -32,7 +32,7 @@ impl Row {
 pub fn from_the_top(alloc: Global, corners: &[Point]) -> Result<Vec<Row>, Memory>
     requires span { All IsInSpan corners.now }
     requires sides { All IsSide (edges_of corners.now) }
-    ensures { IfOk result (λ v. AreRows corners.now v.items) }
+    ensures { IfOk result (λ v. AreRowsOfEdges corners.now v.items) }
 {
     let mut rows = rows_of(alloc, corners)?;
     rows.sort_by_key(|row| row.top)?;

@@ -3,10 +3,10 @@ ghost use Rattle.std.specs.Prelude.{◌≡◌, ℕ, ◌<◌, ◌≤◌, ◌↔�
 ghost use Rattle.std.specs.List.{All};
 ghost use Rattle.plane.specs.Plane.{PlanePoint, In};
 ghost use Rattle.plane.specs.Narrow.{IsNearZero};
-ghost use Rattle.covering.specs.Covering.{IsOn};
-ghost use Rattle.covering.specs.Edges.{IsOctilinear};
+ghost use Rattle.plane.specs.Covering.{IsOn};
+ghost use Rattle.plane.specs.Edges.{IsOctilinear};
 ghost use Rattle.outline_slab.specs.Rules.{IsInSpan, IsSide, edge};
-ghost use Rattle.outline_slab.specs.Side.{edge_of, IsSameSign, IsEighth};
+ghost use Rattle.outline_slab.specs.Inner.Side.{side_edge, IsSameSign, IsEighth};
 
 use grid_num::Point;
 use octagon::Oct;
@@ -22,7 +22,7 @@ pub struct Side {
 pub fn side_at(corners: &[Point], i: usize) -> Side
     requires within { i < length corners.now }
     requires span { All IsInSpan corners.now }
-    ensures edge { edge_of result ≡ edge corners.now i }
+    ensures edge { side_edge result ≡ edge corners.now i }
     ensures start { IsInSpan result.start }
     ensures finish { IsInSpan result.finish }
 {
@@ -32,7 +32,7 @@ pub fn side_at(corners: &[Point], i: usize) -> Side
 // The same for corners anywhere.
 pub fn edge_at(corners: &[Point], i: usize) -> Side
     requires within { i < length corners.now }
-    ensures { edge_of result ≡ edge corners.now i }
+    ensures { side_edge result ≡ edge corners.now i }
 {
     let next = if i + 1 < corners.len() { i + 1 } else { 0 };
     Side {
@@ -66,7 +66,7 @@ impl Side {
     pub fn is_right(self) -> bool
         requires start { IsInSpan self.start }
         requires finish { IsInSpan self.finish }
-        ensures { IsTrue result ↔ IsSide (edge_of self) }
+        ensures { IsTrue result ↔ IsSide (side_edge self) }
     {
         let run = self.run();
         let rise = self.rise();
@@ -77,8 +77,8 @@ impl Side {
     pub fn hull(self) -> Oct
         requires start { IsInSpan self.start }
         requires finish { IsInSpan self.finish }
-        requires octilinear { IsOctilinear (edge_of self) }
-        ensures { (p : PlanePoint) → In result p ↔ IsOn (edge_of self) p }
+        requires octilinear { IsOctilinear (side_edge self) }
+        ensures { (p : PlanePoint) → In result p ↔ IsOn (side_edge self) p }
     {
         Oct::of_points(&[self.start, self.finish])
     }

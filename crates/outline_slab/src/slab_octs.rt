@@ -2,11 +2,10 @@
 ghost use Rattle.std.specs.Prelude.{◌≡◌, ◌⊎◌, ◌↔◌, IfOk};
 ghost use Rattle.std.specs.List.{All};
 ghost use Rattle.plane.specs.Plane.{PlanePoint, In, IsOct};
-ghost use Rattle.covering.specs.Covering.{IsOn, Covers};
-ghost use Rattle.covering.specs.Edges.{IsOctilinear};
+ghost use Rattle.plane.specs.Covering.{IsOn, Covers};
 ghost use Rattle.slabs.specs.Slabs.{IsAmid, IsInPair, IsOnLevel, AreClosed, starts};
-ghost use Rattle.outline_slab.specs.Side.{edge_of};
-ghost use Rattle.outline_slab.specs.Cuts.{all_edges, IsReached, IsSound, AreTwo, ArePaired, IsInSome};
+ghost use Rattle.outline_slab.specs.Inner.Side.{side_edge};
+ghost use Rattle.outline_slab.specs.Cuts.{all_edges, IsSoundEdge, AreTwo, ArePaired, IsInSome, HaveJust};
 
 use crate::cuts::{cuts_of, in_order};
 use crate::side::Side;
@@ -17,8 +16,8 @@ use std::alloc::Global;
 
 // The octagon from one cut to the other, in one slab.
 fn amid(left: Side, right: Side) -> Oct
-    requires { AreTwo (edge_of left) (edge_of right) }
-    ensures points { (p : PlanePoint) → In result p ↔ IsAmid (edge_of left) (edge_of right) p }
+    requires { AreTwo (side_edge left) (side_edge right) }
+    ensures points { (p : PlanePoint) → In result p ↔ IsAmid (side_edge left) (side_edge right) p }
     ensures oct { IsOct result }
 {
     Oct::of_points(&[left.start, right.start, left.finish, right.finish])
@@ -27,7 +26,7 @@ fn amid(left: Side, right: Side) -> Oct
 // The octagons of all pairs.
 fn pair_octs(alloc: Global, cuts: &[Side]) -> Result<Vec<Oct>, Memory>
     requires { ArePaired (all_edges cuts.now) }
-    ensures points { IfOk result (λ v. (p : PlanePoint) → IsInSome v.items p ↔ IsInPair (all_edges cuts.now) p) }
+    ensures points { IfOk result (λ v. HaveJust v.items (IsInPair (all_edges cuts.now))) }
     ensures octs { IfOk result (λ v. All IsOct v.items) }
 {
     let pairs = cuts.len() / 2;
@@ -40,8 +39,8 @@ fn pair_octs(alloc: Global, cuts: &[Side]) -> Result<Vec<Oct>, Memory>
 
 // The octagon of the points of a side.
 fn side_oct(side: Side) -> Oct
-    requires { IsSound (edge_of side) }
-    ensures points { (p : PlanePoint) → In result p ↔ IsOn (edge_of side) p }
+    requires { IsSoundEdge (side_edge side) }
+    ensures points { (p : PlanePoint) → In result p ↔ IsOn (side_edge side) p }
     ensures oct { IsOct result }
 {
     Oct::of_points(&[side.start, side.finish])
@@ -49,9 +48,9 @@ fn side_oct(side: Side) -> Oct
 
 // The octagons with that of a side, if the side is level.
 fn with_level(side: Side, octs: Vec<Oct>) -> Result<Vec<Oct>, Memory>
-    requires sound { IsSound (edge_of side) }
+    requires sound { IsSoundEdge (side_edge side) }
     requires octs { All IsOct octs.items }
-    ensures points { IfOk result (λ v. (p : PlanePoint) → IsInSome v.items p ↔ (IsInSome octs.items p ⊎ ((side.start.y ≡ side.finish.y) × IsOn (edge_of side) p))) }
+    ensures points { IfOk result (λ v. (p : PlanePoint) → IsInSome v.items p ↔ (IsInSome octs.items p ⊎ ((side.start.y ≡ side.finish.y) × IsOn (side_edge side) p))) }
     ensures octs { IfOk result (λ v. All IsOct v.items) }
 {
     let mut octs = octs;
@@ -64,7 +63,7 @@ fn with_level(side: Side, octs: Vec<Oct>) -> Result<Vec<Oct>, Memory>
 
 // The octagons with those of the level sides.
 fn with_levels(sides: &[Side], octs: Vec<Oct>) -> Result<Vec<Oct>, Memory>
-    requires sound { All IsSound (all_edges sides.now) }
+    requires sound { All IsSoundEdge (all_edges sides.now) }
     requires octs { All IsOct octs.items }
     ensures points { IfOk result (λ v. (p : PlanePoint) → IsInSome v.items p ↔ (IsInSome octs.items p ⊎ IsOnLevel (all_edges sides.now) p)) }
     ensures octs { IfOk result (λ v. All IsOct v.items) }
@@ -79,8 +78,8 @@ fn with_levels(sides: &[Side], octs: Vec<Oct>) -> Result<Vec<Oct>, Memory>
 /// Octagons of just the points that closed sides cover.
 pub fn covered_octs(alloc: Global, sides: &[Side]) -> Result<Vec<Oct>, Memory>
     requires closed { AreClosed (starts (all_edges sides.now)) (all_edges sides.now) }
-    requires sound { All IsSound (all_edges sides.now) }
-    ensures points { IfOk result (λ v. (p : PlanePoint) → IsInSome v.items p ↔ Covers (all_edges sides.now) p) }
+    requires sound { All IsSoundEdge (all_edges sides.now) }
+    ensures points { IfOk result (λ v. HaveJust v.items (Covers (all_edges sides.now))) }
     ensures octs { IfOk result (λ v. All IsOct v.items) }
 {
     let rows = rows_of_ends(alloc, sides)?;

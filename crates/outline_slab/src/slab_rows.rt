@@ -1,8 +1,8 @@
 // The rows of all ends of sides, and the next row down.
 ghost use Rattle.std.specs.Prelude.{◌≡◌, ◌<◌, ◌≤ℤ◌, ◌<ℤ◌, Any, IfOk};
 ghost use Rattle.std.specs.List.{All};
-ghost use Rattle.slabs.specs.Slabs.{IsOneOf};
-ghost use Rattle.slabs.specs.Cutting.{AreNeighbours};
+ghost use Rattle.slabs.specs.Slabs.{IsAmong};
+ghost use Rattle.slabs.specs.Inner.Cutting.{AreNeighbourRows};
 ghost use Rattle.outline_slab.specs.Cuts.{all_edges, AreRising, IsInRows, HasRows};
 
 use crate::side::Side;
@@ -34,8 +34,8 @@ pub fn next_row(rows: &[i64], y: i64) -> i64
     requires rising { AreRising rows.now }
     requires some { Any (λ z. y <ℤ z) rows.now }
     ensures after { y <ℤ result }
-    ensures row { IsOneOf rows.now result }
-    ensures next { AreNeighbours rows.now y result }
+    ensures row { IsAmong rows.now result }
+    ensures next { AreNeighbourRows rows.now y result }
 {
     let place = rows.partition_point(|row| *row <= y);
     rows[place]

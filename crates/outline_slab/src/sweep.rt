@@ -1,10 +1,10 @@
 // The search for the least pair of crossing edges, along rows or along columns, whichever overlap less.
-ghost use Rattle.std.specs.Prelude.{◌≡◌, ◌≤◌, length, IfOk, MatchOption};
+ghost use Rattle.std.specs.Prelude.{◌≡◌, ◌≤◌, length, IfOk};
 ghost use Rattle.std.specs.List.{All};
-ghost use Rattle.covering.specs.Covering.{edges_of};
-ghost use Rattle.outline_slab.specs.Rules.{IsInSpan, IsSide, NoneCrossing};
-ghost use Rattle.outline_slab.specs.Faults.{IsLeastCrossing};
-ghost use Rattle.outline_slab.specs.Exchange.{all_exchanged};
+ghost use Rattle.plane.specs.Covering.{edges_of};
+ghost use Rattle.outline_slab.specs.Rules.{IsInSpan, IsSide};
+ghost use Rattle.outline_slab.specs.Faults.{IsFoundCrossing};
+ghost use Rattle.outline_slab.specs.Inner.Exchange.{all_exchanged};
 
 use crate::crossing::least_crossing;
 use crate::side::edge_at;
@@ -16,7 +16,7 @@ pub fn least_pair(alloc: Global, corners: &[Point]) -> Result<Option<(usize, usi
     requires three { 3 ≤ length corners.now }
     requires span { All IsInSpan corners.now }
     requires sides { All IsSide (edges_of corners.now) }
-    ensures { IfOk result (λ found. MatchOption found (NoneCrossing corners.now) (λ pair. IsLeastCrossing corners.now pair.0 pair.1)) }
+    ensures { IfOk result (λ found. IsFoundCrossing corners.now found) }
 {
     if is_tall(corners) {
         let turned = exchanged(alloc, corners)?;

@@ -4,59 +4,31 @@ use Rattle.std.specs.Prelude.{ℤ, pos, ◌+ℤ◌, ◌-ℤ◌, ◌*ℤ◌}
 use Rattle.std.proofs.lemmas.Int.{ints}
 use Rattle.plane.specs.Plane.{Bounds, Within, StrictlyWithin, times, IsTight, minus, moved}
 use Rattle.plane.specs.Laws.{GridLaw, StrictGridLaw, MovedLaw, StrictMovedLaw, BoxLaw, TightBoxLaw}
-use Rattle.plane.proofs.Times.{mul_add, mul_sub}
+use Rattle.grid_num.proofs.Products.{mul_add, mul_sub}
+use Rattle.plane.proofs.Equal.{equal}
 
 times_one : (k : ℕ) → k ≡ k * 1
 times_one k = omega arith
 
 -- ---- grid points
+once : (b : Bounds) → times 1 b ≡ b
+once b = equal _ _ (record {
+  x0 = omega (arith, ints);
+  x1 = omega (arith, ints);
+  y0 = omega (arith, ints);
+  y1 = omega (arith, ints);
+  s0 = omega (arith, ints);
+  s1 = omega (arith, ints);
+  d0 = omega (arith, ints);
+  d1 = omega (arith, ints);
+})
+
 pub grid_law : GridLaw
-grid_law b x y = (
-  λ w. record {
-    x_low = omega (arith, ints, w.x_low);
-    x_high = omega (arith, ints, w.x_high);
-    y_low = omega (arith, ints, w.y_low);
-    y_high = omega (arith, ints, w.y_high);
-    s_low = omega (arith, ints, w.s_low);
-    s_high = omega (arith, ints, w.s_high);
-    d_low = omega (arith, ints, w.d_low);
-    d_high = omega (arith, ints, w.d_high);
-  },
-  λ w. record {
-    x_low = omega (arith, ints, w.x_low);
-    x_high = omega (arith, ints, w.x_high);
-    y_low = omega (arith, ints, w.y_low);
-    y_high = omega (arith, ints, w.y_high);
-    s_low = omega (arith, ints, w.s_low);
-    s_high = omega (arith, ints, w.s_high);
-    d_low = omega (arith, ints, w.d_low);
-    d_high = omega (arith, ints, w.d_high);
-  },
-)
+grid_law b x y = (λ w. subst (λ c. Within c x y) (once b) w, λ w. subst (λ c. Within c x y) (sym (once b)) w)
 
 pub strict_grid_law : StrictGridLaw
-strict_grid_law b x y = (
-  λ w. record {
-    x_low = omega (arith, ints, w.x_low);
-    x_high = omega (arith, ints, w.x_high);
-    y_low = omega (arith, ints, w.y_low);
-    y_high = omega (arith, ints, w.y_high);
-    s_low = omega (arith, ints, w.s_low);
-    s_high = omega (arith, ints, w.s_high);
-    d_low = omega (arith, ints, w.d_low);
-    d_high = omega (arith, ints, w.d_high);
-  },
-  λ w. record {
-    x_low = omega (arith, ints, w.x_low);
-    x_high = omega (arith, ints, w.x_high);
-    y_low = omega (arith, ints, w.y_low);
-    y_high = omega (arith, ints, w.y_high);
-    s_low = omega (arith, ints, w.s_low);
-    s_high = omega (arith, ints, w.s_high);
-    d_low = omega (arith, ints, w.d_low);
-    d_high = omega (arith, ints, w.d_high);
-  },
-)
+strict_grid_law b x y =
+    (λ w. subst (λ c. StrictlyWithin c x y) (once b) w, λ w. subst (λ c. StrictlyWithin c x y) (sym (once b)) w)
 
 -- ---- moved, at one scale
 moved_back : (k : ℕ) (b : Bounds) (x y u v : ℤ) → Within (times k (moved b x y)) u v

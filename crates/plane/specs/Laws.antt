@@ -1,11 +1,6 @@
 -- The laws of the plane that the crates above rest on.
-use Rattle.std.specs.Prelude.{◌≡◌, ℕ, ◌≤◌, ◌*◌, ◌↔◌, ℤ, pos, ◌*ℤ◌, ◌≤ℤ◌}
+use Rattle.std.specs.Prelude.{◌≡◌, ℕ, ◌*◌, ◌↔◌, ℤ, pos, ◌*ℤ◌, ◌≤ℤ◌}
 use Rattle.plane.specs.Plane.{PlanePoint, Bounds, Within, StrictlyWithin, In, StrictlyIn, IsTight, IsAttained, IsNear, minus, ball_of, grid_point, moved, box_of, scaled_dist_sq}
-
--- up2_of a is the least number whose square is at least 2 a a
-pub record IsUp2 (a m : ℕ) : Type 0 where
-  pub reaches : 2 * (a * a) ≤ m * m
-  pub least : (n : ℕ) → 2 * (a * a) ≤ n * n → m ≤ n
 
 -- a grid point is in the octagon where its coordinates meet the bounds
 abbrev pub GridLaw : Type 0
@@ -16,8 +11,8 @@ abbrev pub StrictGridLaw : Type 0
 StrictGridLaw = (b : Bounds) (x y : ℤ) → StrictlyIn b (grid_point x y) ↔ StrictlyWithin b x y
 
 -- near at a is: strictly in the ball of a, at the difference
-abbrev pub NearLaw : Type 0
-NearLaw = (a : ℕ) (p q : PlanePoint) → IsNear a p q ↔ StrictlyIn (ball_of a) (minus p q)
+abbrev pub NearBallLaw : Type 0
+NearBallLaw = (a : ℕ) (p q : PlanePoint) → IsNear a p q ↔ StrictlyIn (ball_of a) (minus p q)
 
 -- points that are not near at a have a squared distance of at least a * a
 abbrev pub EuclideanLaw : Type 0

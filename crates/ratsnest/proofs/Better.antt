@@ -4,8 +4,8 @@ use Rattle.classes.specs.Classes.{IsOneOf}
 use Rattle.ratsnest.specs.declared.Anchor.{Anchor}
 use Rattle.ratsnest.specs.declared.Pair.{Pair}
 use Rattle.ratsnest.specs.declared.offers.Offer.{Offer}
-use Rattle.ratsnest.specs.Ratsnest.{IsPair, IsLess}
-use Rattle.ratsnest.specs.Best.{IsBetween, Touches, IsOffer, IsSound, MayMeet, IsBetter, IsImproved}
+use Rattle.ratsnest.specs.Ratsnest.{IsPair, HasLesserKey}
+use Rattle.ratsnest.specs.Inner.Best.{IsBetween, GoesInto, IsOffer, IsSoundOffer, MayMeet, IsBetter, IsImproved}
 use Rattle.ratsnest.proofs.Order.{less_irr, less_trans, pair_same}
 
 pub between_pair : (xs : List Anchor) (e : Pair) (i j : ℕ) → i < length xs → j < length xs → IsBetween e i j → IsPair xs e
@@ -28,7 +28,7 @@ between_one e f i j b c = elim b.ends [
     crossed a b i j p q r s l k = omega (arith, p, q, r, s, l, k)
 
 -- with m inside too, only one pair is new
-touches_more : (xs : List Anchor) (D : ℕ → Type 0) (k m : ℕ) (f : Pair) → Touches xs (λ j. D j ⊎ (j ≡ m)) k f → Touches xs D k f ⊎ IsBetween f m k
+touches_more : (xs : List Anchor) (D : ℕ → Type 0) (k m : ℕ) (f : Pair) → GoesInto xs (λ j. D j ⊎ (j ≡ m)) k f → GoesInto xs D k f ⊎ IsBetween f m k
 touches_more xs D k m f t = elim t.ends [
   | inl h ↦ elim h.1 [
     | inl d ↦ inl (record { is = t.is; ends = inl (h.0, d) })
@@ -40,44 +40,44 @@ touches_more xs D k m f t = elim t.ends [
   ]
 ]
 
-touches_wider : (xs : List Anchor) (D E : ℕ → Type 0) (k : ℕ) (f : Pair) → ((j : ℕ) → D j → E j) → Touches xs D k f → Touches xs E k f
+touches_wider : (xs : List Anchor) (D E : ℕ → Type 0) (k : ℕ) (f : Pair) → ((j : ℕ) → D j → E j) → GoesInto xs D k f → GoesInto xs E k f
 touches_wider xs D E k f w t = record {
   is = t.is;
   ends = elim t.ends [ inl h ↦ inl (h.0, w f.second h.1) | inr h ↦ inr (h.0, w f.first h.1) ];
 }
 
-between_touches : (xs : List Anchor) (D : ℕ → Type 0) (k m : ℕ) (f : Pair) → IsPair xs f → IsBetween f m k → D m → Touches xs D k f
+between_touches : (xs : List Anchor) (D : ℕ → Type 0) (k m : ℕ) (f : Pair) → IsPair xs f → IsBetween f m k → D m → GoesInto xs D k f
 between_touches xs D k m f p b d = record {
   is = p;
   ends = elim b.ends [ inl h ↦ inr (h.1, subst D (sym h.0) d) | inr h ↦ inl (h.0, subst D (sym h.1) d) ];
 }
 
-pub offer_better : (xs : List Anchor) (D : ℕ → Type 0) (m : ℕ) (o new : Offer) → IsSound xs o → MayMeet xs o.outside m
+pub offer_better : (xs : List Anchor) (D : ℕ → Type 0) (m : ℕ) (o new : Offer) → IsSoundOffer xs o → MayMeet xs o.outside m
     → IsBetter xs m o new → IsOffer xs D o → IsOffer xs (λ j. D j ⊎ (j ≡ m)) new
 offer_better xs D m o new s t b h = elim b.chosen [
   | inl k ↦ record {
     out = λ d. elim d [ inl i ↦ h.out (subst D b.same i) | inr e ↦ t.other (sym e ∙ b.same) ];
-    touches = subst (λ z. Touches xs (λ j. D j ⊎ (j ≡ m)) z new.best) (sym b.same)
-        (subst (λ z. Touches xs (λ j. D j ⊎ (j ≡ m)) o.outside z) (sym k.0)
+    touches = subst (λ z. GoesInto xs (λ j. D j ⊎ (j ≡ m)) z new.best) (sym b.same)
+        (subst (λ z. GoesInto xs (λ j. D j ⊎ (j ≡ m)) o.outside z) (sym k.0)
         (touches_wider xs D (λ j. D j ⊎ (j ≡ m)) o.outside o.best (λ j d. inl d) h.touches));
-    least = λ f g l. elim (touches_more xs D o.outside m f (subst (λ z. Touches xs (λ j. D j ⊎ (j ≡ m)) z f) b.same g)) [
-      | inl u ↦ h.least f u (subst (λ z. IsLess xs f z) k.0 l)
-      | inr u ↦ k.1 (subst (λ z. IsLess xs z o.best) (between_one f b.pair m o.outside u b.between) (subst (λ z. IsLess xs f z) k.0 l))
+    least = λ f g l. elim (touches_more xs D o.outside m f (subst (λ z. GoesInto xs (λ j. D j ⊎ (j ≡ m)) z f) b.same g)) [
+      | inl u ↦ h.least f u (subst (λ z. HasLesserKey xs f z) k.0 l)
+      | inr u ↦ k.1 (subst (λ z. HasLesserKey xs z o.best) (between_one f b.pair m o.outside u b.between) (subst (λ z. HasLesserKey xs f z) k.0 l))
     ];
   }
   | inr k ↦ record {
     out = λ d. elim d [ inl i ↦ h.out (subst D b.same i) | inr e ↦ t.other (sym e ∙ b.same) ];
-    touches = subst (λ z. Touches xs (λ j. D j ⊎ (j ≡ m)) z new.best) (sym b.same)
-        (subst (λ z. Touches xs (λ j. D j ⊎ (j ≡ m)) o.outside z) (sym k.0)
+    touches = subst (λ z. GoesInto xs (λ j. D j ⊎ (j ≡ m)) z new.best) (sym b.same)
+        (subst (λ z. GoesInto xs (λ j. D j ⊎ (j ≡ m)) o.outside z) (sym k.0)
         (between_touches xs (λ j. D j ⊎ (j ≡ m)) o.outside m b.pair (between_pair xs b.pair m o.outside t.there s.there b.between) b.between (inr refl)));
-    least = λ f g l. elim (touches_more xs D o.outside m f (subst (λ z. Touches xs (λ j. D j ⊎ (j ≡ m)) z f) b.same g)) [
-      | inl u ↦ h.least f u (less_trans xs f b.pair o.best (subst (λ z. IsLess xs f z) k.0 l) k.1)
-      | inr u ↦ less_irr xs b.pair (subst (λ z. IsLess xs z b.pair) (between_one f b.pair m o.outside u b.between) (subst (λ z. IsLess xs f z) k.0 l))
+    least = λ f g l. elim (touches_more xs D o.outside m f (subst (λ z. GoesInto xs (λ j. D j ⊎ (j ≡ m)) z f) b.same g)) [
+      | inl u ↦ h.least f u (less_trans xs f b.pair o.best (subst (λ z. HasLesserKey xs f z) k.0 l) k.1)
+      | inr u ↦ less_irr xs b.pair (subst (λ z. HasLesserKey xs z b.pair) (between_one f b.pair m o.outside u b.between) (subst (λ z. HasLesserKey xs f z) k.0 l))
     ];
   }
 ]
 
-pub better_sound : (xs : List Anchor) (m : ℕ) (o new : Offer) → IsSound xs o → MayMeet xs o.outside m → IsBetter xs m o new → IsSound xs new
+pub better_sound : (xs : List Anchor) (m : ℕ) (o new : Offer) → IsSoundOffer xs o → MayMeet xs o.outside m → IsBetter xs m o new → IsSoundOffer xs new
 better_sound xs m o new s t b = record {
   measured = b.measured;
   there = subst (λ z. z < length xs) (sym b.same) s.there;
@@ -120,7 +120,7 @@ take_more {A = A} [] i d l = absurd (no_place A i l)
 take_more (x ∷ xs) zero d l = refl
 take_more (x ∷ xs) (suc i) d l = ap (λ z. x ∷ z) (take_more xs i d (omega (arith, l)))
 
-pub improved_none : (xs : List Anchor) (o : Offer) → IsSound xs o → IsImproved xs [] o o
+pub improved_none : (xs : List Anchor) (o : Offer) → IsSoundOffer xs o → IsImproved xs [] o o
 unfolding IsOneOf
 improved_none xs o s = record {
   same = refl;

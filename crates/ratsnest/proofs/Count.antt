@@ -5,7 +5,7 @@ use Rattle.classes.specs.Classes.{IsOneOf}
 use Rattle.classes.proofs.Reaching.{reaches_keeps}
 use Rattle.ratsnest.specs.declared.Anchor.{Anchor}
 use Rattle.ratsnest.specs.declared.Pair.{Pair}
-use Rattle.ratsnest.specs.Ratsnest.{start, finish, dist_sq, AreEnds, IsLinked, AreJoined, longer, Apart}
+use Rattle.ratsnest.specs.Ratsnest.{start, finish, dist_sq, AreEndsOf, IsLinkedBy, AreJoinedBy, longer, Apart}
 
 pub record IsEquiv (R : ℕ → ℕ → Type 0) : Type 0 where
   pub re : (x : ℕ) → R x x
@@ -66,17 +66,17 @@ under_one xs (f ∷ es) R q e (inl p) = subst (λ g. Under xs es (Add R (start x
 under_one xs (f ∷ es) R q e (inr i) =
     under_one xs es (Add R (start xs f) (finish xs f)) (add_equiv R q (start xs f) (finish xs f)) e i
 
-pub under_ends : (xs : List Anchor) (Q : ℕ → ℕ → Type 0) → IsEquiv Q → (e : Pair) (c d : ℕ) → AreEnds xs e c d
+pub under_ends : (xs : List Anchor) (Q : ℕ → ℕ → Type 0) → IsEquiv Q → (e : Pair) (c d : ℕ) → AreEndsOf xs e c d
     → Q (start xs e) (finish xs e) → Q c d
-unfolding AreEnds
+unfolding AreEndsOf
 under_ends xs Q q e c d (inl (p, o)) r = subst (λ x. Q x d) (sym p) (subst (λ x. Q (start xs e) x) (sym o) r)
 under_ends xs Q q e c d (inr (p, o)) r = q.back d c (subst (λ x. Q x c) (sym o) (subst (λ x. Q (start xs e) x) (sym p) r))
 
 -- what the list joins
 pub under_joined : (xs : List Anchor) (es : List Pair) (R : ℕ → ℕ → Type 0) → IsEquiv R → (x y : ℕ)
-    → AreJoined xs (λ e. IsOneOf e es) x y → Under xs es R x y
+    → AreJoinedBy xs (λ e. IsOneOf e es) x y → Under xs es R x y
 under_joined xs es R q x y j = let h : IsEquiv (Under xs es R) = under_equiv xs es R q in
-    reaches_keeps (IsLinked xs (λ e. IsOneOf e es)) (Under xs es R x)
+    reaches_keeps (IsLinkedBy xs (λ e. IsOneOf e es)) (Under xs es R x)
     (λ u v l r. h.tr x u v r (under_ends xs (Under xs es R) h l.by u v l.ends (under_one xs es R q l.by l.one)))
     x y j (h.re x)
 

@@ -7,8 +7,8 @@ use Rattle.classes.specs.Classes.{IsOneOf}
 use Rattle.ratsnest.specs.declared.Anchor.{Anchor}
 use Rattle.ratsnest.specs.declared.Pair.{Pair}
 use Rattle.ratsnest.specs.declared.offers.Offer.{Offer}
-use Rattle.ratsnest.specs.Ratsnest.{anchor, start, finish, AreEnds, IsLess, IsLeaving, IsNext, IsCluster, IsGrown, IsTree}
-use Rattle.ratsnest.specs.Best.{Touches, IsOffer, IsSound, numbers, IsRing, IsJoinedBy, IsAbsorbed, IsNearest}
+use Rattle.ratsnest.specs.Ratsnest.{anchor, start, finish, AreEndsOf, HasLesserKey, IsLeaving, IsNextPair, IsCluster, IsGrown, IsTree}
+use Rattle.ratsnest.specs.Inner.Best.{GoesInto, IsOffer, IsSoundOffer, offer_numbers, IsRing, IsJoinedBy, IsAbsorbed, IsNearest}
 use Rattle.ratsnest.proofs.Order.{less_trans, less_cases, is_one}
 
 -- an anchor is inside exactly where its cluster is one of the joined ones
@@ -29,11 +29,11 @@ pub offers_at : (xs : List Anchor) (left : List Offer) (inside : List ℕ) (o : 
     → IsOffer xs (λ j. IsOneOf j inside) o
 offers_at xs left inside o r n = subst (IsOffer xs (λ j. IsOneOf j inside)) (n.is o) (r.offers n.at o n.there)
 
-pub sound_at : (xs : List Anchor) (left : List Offer) (o : Offer) → All (λ p. IsSound xs p) left → IsNearest xs left o → IsSound xs o
-sound_at xs left o s n = subst (IsSound xs) (n.is o) (s n.at o n.there)
+pub sound_at : (xs : List Anchor) (left : List Offer) (o : Offer) → All (λ p. IsSoundOffer xs p) left → IsNearest xs left o → IsSoundOffer xs o
+sound_at xs left o s n = subst (IsSoundOffer xs) (n.is o) (s n.at o n.there)
 
 -- the offer that an anchor outside has
-find_offer : (P : Offer → Type 0) (left : List Offer) (k : ℕ) → IsOneOf k (numbers left) → All P left → (p : Offer) × (p.outside ≡ k) × P p
+find_offer : (P : Offer → Type 0) (left : List Offer) (k : ℕ) → IsOneOf k (offer_numbers left) → All P left → (p : Offer) × (p.outside ≡ k) × P p
 unfolding IsOneOf
 find_offer P [] k i h = absurd i
 find_offer P (p ∷ left) k (inl e) h = (p, sym e, h 0 p (omega arith))
@@ -44,27 +44,27 @@ all_both P Q left h g k d l = (h k d l, g k d l)
 
 -- no pair from an anchor outside to one inside is less than the nearest
 none_nearer : (xs : List Anchor) (left : List Offer) (inside : List ℕ) (o : Offer) (k : ℕ) (f : Pair) → IsRing xs inside left → IsNearest xs left o
-    → IsOneOf k (numbers left) → Touches xs (λ j. IsOneOf j inside) k f → IsLess xs f o.best → ⊥
+    → IsOneOf k (offer_numbers left) → GoesInto xs (λ j. IsOneOf j inside) k f → HasLesserKey xs f o.best → ⊥
 none_nearer xs left inside o k f r n i t l =
-    let p : (p : Offer) × (p.outside ≡ k) × (IsOffer xs (λ j. IsOneOf j inside) p × (IsLess xs p.best o.best → ⊥)) =
-    find_offer (λ p. IsOffer xs (λ j. IsOneOf j inside) p × (IsLess xs p.best o.best → ⊥)) left k i
-    (all_both (λ p. IsOffer xs (λ j. IsOneOf j inside) p) (λ p. IsLess xs p.best o.best → ⊥) left r.offers n.least) in
+    let p : (p : Offer) × (p.outside ≡ k) × (IsOffer xs (λ j. IsOneOf j inside) p × (HasLesserKey xs p.best o.best → ⊥)) =
+    find_offer (λ p. IsOffer xs (λ j. IsOneOf j inside) p × (HasLesserKey xs p.best o.best → ⊥)) left k i
+    (all_both (λ p. IsOffer xs (λ j. IsOneOf j inside) p) (λ p. HasLesserKey xs p.best o.best → ⊥) left r.offers n.least) in
     beyond xs inside o k f t l p.0 p.1 p.2.0 p.2.1
   where
-    beyond : (xs : List Anchor) (inside : List ℕ) (o : Offer) (k : ℕ) (f : Pair) → Touches xs (λ j. IsOneOf j inside) k f → IsLess xs f o.best
-        → (p : Offer) → p.outside ≡ k → IsOffer xs (λ j. IsOneOf j inside) p → (IsLess xs p.best o.best → ⊥) → ⊥
+    beyond : (xs : List Anchor) (inside : List ℕ) (o : Offer) (k : ℕ) (f : Pair) → GoesInto xs (λ j. IsOneOf j inside) k f → HasLesserKey xs f o.best
+        → (p : Offer) → p.outside ≡ k → IsOffer xs (λ j. IsOneOf j inside) p → (HasLesserKey xs p.best o.best → ⊥) → ⊥
     beyond xs inside o k f t l p e h g = elim (less_cases xs f p.best) [
-      | inl m ↦ h.least f (subst (λ z. Touches xs (λ j. IsOneOf j inside) z f) (sym e) t) m
+      | inl m ↦ h.least f (subst (λ z. GoesInto xs (λ j. IsOneOf j inside) z f) (sym e) t) m
       | inr c ↦ elim c [
-        | inl m ↦ g (subst (λ z. IsLess xs z o.best) m l)
+        | inl m ↦ g (subst (λ z. HasLesserKey xs z o.best) m l)
         | inr m ↦ g (less_trans xs p.best f o.best m l)
       ]
     ]
 
 -- a pair that leaves goes from an anchor inside to one outside
 leaving_touches : (xs : List Anchor) (done inside : List ℕ) (f : Pair) (v d : ℕ) → IsMatched xs done inside → IsLeaving xs done f v d
-    → (k : ℕ) × (k < length xs) × (IsOneOf k inside → ⊥) × Touches xs (λ j. IsOneOf j inside) k f
-unfolding AreEnds start finish
+    → (k : ℕ) × (k < length xs) × (IsOneOf k inside → ⊥) × GoesInto xs (λ j. IsOneOf j inside) k f
+unfolding AreEndsOf start finish
 leaving_touches xs done inside f v d m l = elim l.ends [
   | inl e ↦ (
     f.second,
@@ -83,9 +83,9 @@ leaving_touches xs done inside f v d m l = elim l.ends [
     below : (a b : ℕ) (xs : List Anchor) → a < b → b < length xs → a < length xs
     below a b xs l m = omega (arith, l, m)
 
-nearest_leaves : (xs : List Anchor) (done inside : List ℕ) (o : Offer) → IsMatched xs done inside → IsSound xs o
+nearest_leaves : (xs : List Anchor) (done inside : List ℕ) (o : Offer) → IsMatched xs done inside → IsSoundOffer xs o
     → IsOffer xs (λ j. IsOneOf j inside) o → (u : ℕ) × IsLeaving xs done o.best u (anchor xs o.outside).cluster
-unfolding AreEnds start finish
+unfolding AreEndsOf start finish
 nearest_leaves xs done inside o m s h = elim h.touches.ends [
   | inl e ↦ (
     (anchor xs o.best.second).cluster,
@@ -108,13 +108,13 @@ nearest_leaves xs done inside o m s h = elim h.touches.ends [
 ]
 
 nearest_least : (xs : List Anchor) (left : List Offer) (done inside : List ℕ) (o : Offer) → IsMatched xs done inside → IsRing xs inside left
-    → IsNearest xs left o → (f : Pair) (v d : ℕ) → IsLeaving xs done f v d → IsLess xs f o.best → ⊥
+    → IsNearest xs left o → (f : Pair) (v d : ℕ) → IsLeaving xs done f v d → HasLesserKey xs f o.best → ⊥
 nearest_least xs left done inside o m r n f v d l s =
-    let t : (k : ℕ) × (k < length xs) × (IsOneOf k inside → ⊥) × Touches xs (λ j. IsOneOf j inside) k f = leaving_touches xs done inside f v d m l in
+    let t : (k : ℕ) × (k < length xs) × (IsOneOf k inside → ⊥) × GoesInto xs (λ j. IsOneOf j inside) k f = leaving_touches xs done inside f v d m l in
     none_nearer xs left inside o t.0 f r n (r.whole t.0 t.1 t.2) t.3 s
 
 nearest_next : (xs : List Anchor) (left : List Offer) (done inside : List ℕ) (o : Offer) → IsMatched xs done inside → IsRing xs inside left
-    → IsNearest xs left o → (u : ℕ) × IsNext xs done o.best u (anchor xs o.outside).cluster
+    → IsNearest xs left o → (u : ℕ) × IsNextPair xs done o.best u (anchor xs o.outside).cluster
 nearest_next xs left done inside o m r n =
     let t : (u : ℕ) × IsLeaving xs done o.best u (anchor xs o.outside).cluster =
     nearest_leaves xs done inside o m (sound_at xs left o r.sound n) (offers_at xs left inside o r n) in
@@ -129,19 +129,19 @@ matched_more xs done inside more c m j = record {
 }
 
 growing_step : (xs : List Anchor) (es : List Pair) (done : List ℕ) (e : Pair) (u c : ℕ) → ((rest : List Pair) → IsGrown xs done rest → IsTree xs (es ++ rest))
-    → IsNext xs done e u c → (rest : List Pair) → IsGrown xs (c ∷ done) rest → IsTree xs ((es ++ (e ∷ [])) ++ rest)
+    → IsNextPair xs done e u c → (rest : List Pair) → IsGrown xs (c ∷ done) rest → IsTree xs ((es ++ (e ∷ [])) ++ rest)
 unfolding IsGrown
 growing_step xs es done e u c w n rest g = subst (IsTree xs) (sym (append_assoc es (e ∷ []) rest)) (w (e ∷ rest) (u, c, n, g))
 
 pub growing_more : (xs : List Anchor) (es : List Pair) (left rest : List Offer) (o : Offer) (c : ℕ) → IsNearest xs left o → c ≡ (anchor xs o.outside).cluster
     → IsAbsorbed xs c left rest → Growing xs es left → Growing xs (es ++ (o.best ∷ [])) rest
 growing_more xs es left rest o c n e a (done, inside, h) =
-    let t : (u : ℕ) × IsNext xs done o.best u (anchor xs o.outside).cluster = nearest_next xs left done inside o h.matched h.ring n in
+    let t : (u : ℕ) × IsNextPair xs done o.best u (anchor xs o.outside).cluster = nearest_next xs left done inside o h.matched h.ring n in
     let b : (more : List ℕ) × IsJoinedBy xs c inside more × IsRing xs more rest = a.ring inside h.ring in (
       c ∷ done,
       b.0,
       record {
-        onward = growing_step xs es done o.best t.0 c h.onward (subst (λ z. IsNext xs done o.best t.0 z) (sym e) t.1);
+        onward = growing_step xs es done o.best t.0 c h.onward (subst (λ z. IsNextPair xs done o.best t.0 z) (sym e) t.1);
         matched = matched_more xs done inside b.0 c h.matched b.1;
         ring = b.2;
       },
@@ -185,7 +185,7 @@ none_left : (xs : List Anchor) (done inside : List ℕ) (left : List Offer) → 
 unfolding IsOneOf
 none_left xs done inside left e m r c i = elim (is_one i.number inside) [
   | inl o ↦ subst (λ z. IsOneOf z done) i.is (m.joined i.number o)
-  | inr n ↦ absurd (subst (λ z. IsOneOf i.number (numbers z)) e (r.whole i.number i.there n))
+  | inr n ↦ absurd (subst (λ z. IsOneOf i.number (offer_numbers z)) e (r.whole i.number i.there n))
 ]
 
 pub growing_end : (xs : List Anchor) (es : List Pair) (left : List Offer) → left ≡ [] → Growing xs es left → IsTree xs es
@@ -199,11 +199,11 @@ none_of (x ∷ xs) e = absurd (some x xs e)
     some : {A : Type 0} (x : A) (xs : List A) → length (x ∷ xs) ≡ 0 → ⊥
     some x xs e = omega (arith, e)
 
-pub growing_sound : (xs : List Anchor) (es : List Pair) (left : List Offer) → Growing xs es left → All (λ o. IsSound xs o) left
+pub growing_sound : (xs : List Anchor) (es : List Pair) (left : List Offer) → Growing xs es left → All (λ o. IsSoundOffer xs o) left
 growing_sound xs es left (done, inside, h) = h.ring.sound
 
 -- the nearest one is among the numbers
-pub nearest_number : (left : List Offer) (i : ℕ) (o : Offer) → i < length left → ((d : Offer) → get_or left i d ≡ o) → IsOneOf o.outside (numbers left)
+pub nearest_number : (left : List Offer) (i : ℕ) (o : Offer) → i < length left → ((d : Offer) → get_or left i d ≡ o) → IsOneOf o.outside (offer_numbers left)
 unfolding IsOneOf
 nearest_number [] i o l e = absurd (none i l)
   where

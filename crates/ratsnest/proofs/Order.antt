@@ -6,7 +6,7 @@ use Rattle.std.proofs.lemmas.Bool.{cases_eq, cases_order}
 use Rattle.classes.specs.Classes.{IsOneOf}
 use Rattle.ratsnest.specs.declared.Anchor.{Anchor}
 use Rattle.ratsnest.specs.declared.Pair.{Pair}
-use Rattle.ratsnest.specs.Ratsnest.{dist_sq, IsLess}
+use Rattle.ratsnest.specs.Ratsnest.{dist_sq, HasLesserKey}
 
 abbrev Key : ℤ → ℕ → ℕ → ℤ → ℕ → ℕ → Type 0
 Key d i j e k l = (d <ℤ e) ⊎ ((d ≡ e) × ((i < k) ⊎ ((i ≡ k) × (j < l))))
@@ -34,19 +34,19 @@ key_cases d i j e k l = by_lt_z {P = Key d i j e k l ⊎ (((d ≡ e) × ((i ≡ 
       | inr o ↦ elim o [ inl p ↦ inl (inr (s, inl p)) | inr p ↦ inr (inr (inr (sym s, inl p))) ]
     ]))
 
-pub less_irr : (xs : List Anchor) (e : Pair) → IsLess xs e e → ⊥
-unfolding IsLess
+pub less_irr : (xs : List Anchor) (e : Pair) → HasLesserKey xs e e → ⊥
+unfolding HasLesserKey
 less_irr xs e h = key_irr (dist_sq xs e) e.first e.second h
 
-pub less_trans : (xs : List Anchor) (e f g : Pair) → IsLess xs e f → IsLess xs f g → IsLess xs e g
-unfolding IsLess
+pub less_trans : (xs : List Anchor) (e f g : Pair) → HasLesserKey xs e f → HasLesserKey xs f g → HasLesserKey xs e g
+unfolding HasLesserKey
 less_trans xs e f g h k = key_trans (dist_sq xs e) e.first e.second (dist_sq xs f) f.first f.second (dist_sq xs g) g.first g.second h k
 
 pub pair_same : (e f : Pair) → e.first ≡ f.first → e.second ≡ f.second → e ≡ f
 pair_same e f p q = ap (λ x. record { first = x; second = e.second }) p ∙ ap (λ y. record { first = f.first; second = y }) q
 
-pub less_cases : (xs : List Anchor) (e f : Pair) → IsLess xs e f ⊎ ((e ≡ f) ⊎ IsLess xs f e)
-unfolding IsLess
+pub less_cases : (xs : List Anchor) (e f : Pair) → HasLesserKey xs e f ⊎ ((e ≡ f) ⊎ HasLesserKey xs f e)
+unfolding HasLesserKey
 less_cases xs e f = elim (key_cases (dist_sq xs e) e.first e.second (dist_sq xs f) f.first f.second) [
   | inl h ↦ inl h
   | inr o ↦ elim o [ inl h ↦ inr (inl (pair_same e f h.1.0 h.1.1)) | inr h ↦ inr (inr h) ]
@@ -66,10 +66,10 @@ is_pair_of xs e [] = inr (λ i. i)
 is_pair_of xs e (f ∷ es) = elim (is_pair_of xs e es) [
   | inl i ↦ inl (inr i)
   | inr m ↦ elim (less_cases xs e f) [
-    | inl l ↦ inr (λ o. elim o [ inl p ↦ less_irr xs f (subst (λ x. IsLess xs x f) p l) | inr i ↦ m i ])
+    | inl l ↦ inr (λ o. elim o [ inl p ↦ less_irr xs f (subst (λ x. HasLesserKey xs x f) p l) | inr i ↦ m i ])
     | inr o ↦ elim o [
       | inl p ↦ inl (inl p)
-      | inr l ↦ inr (λ o. elim o [ inl p ↦ less_irr xs f (subst (λ x. IsLess xs f x) p l) | inr i ↦ m i ])
+      | inr l ↦ inr (λ o. elim o [ inl p ↦ less_irr xs f (subst (λ x. HasLesserKey xs f x) p l) | inr i ↦ m i ])
     ]
   ]
 ]

@@ -7,8 +7,8 @@ use Rattle.classes.specs.Classes.{IsOneOf}
 use Rattle.ratsnest.specs.declared.Anchor.{Anchor}
 use Rattle.ratsnest.specs.declared.Pair.{Pair}
 use Rattle.ratsnest.specs.declared.offers.Offer.{Offer}
-use Rattle.ratsnest.specs.Ratsnest.{anchor, IsLess, dist_sq}
-use Rattle.ratsnest.specs.Best.{Touches, IsOffer, IsSound, IsImproved, numbers, IsEntering, IsRest, IsRing, IsJoinedBy, IsAbsorbed, IsNearest}
+use Rattle.ratsnest.specs.Ratsnest.{anchor, HasLesserKey, dist_sq}
+use Rattle.ratsnest.specs.Inner.Best.{GoesInto, IsOffer, IsSoundOffer, IsImproved, offer_numbers, IsEntering, IsRestOfOffers, IsRing, IsJoinedBy, IsAbsorbed, IsNearest}
 use Rattle.ratsnest.proofs.Order.{less_irr, less_trans, pair_same, is_one}
 use Rattle.ratsnest.proofs.Better.{no_place, offer_wider, one_front, one_back, one_split, take_more}
 
@@ -45,7 +45,7 @@ one_all P [] m h i = absurd i
 one_all P (x ∷ xs) m h (inl e) = subst P (sym e) (h 0 0 (omega arith))
 one_all P (x ∷ xs) m h (inr i) = one_all P xs m (all_tail P x xs h) i
 
-numbers_put : (left : List Offer) (o : Offer) → numbers (left ++ (o ∷ [])) ≡ numbers left ++ (o.outside ∷ [])
+numbers_put : (left : List Offer) (o : Offer) → offer_numbers (left ++ (o ∷ [])) ≡ offer_numbers left ++ (o.outside ∷ [])
 numbers_put [] o = refl
 numbers_put (p ∷ left) o = ap (λ z. p.outside ∷ z) (numbers_put left o)
 
@@ -54,26 +54,26 @@ longer_by_one [] x = refl
 longer_by_one (y ∷ ys) x = ap suc (longer_by_one ys x)
 
 -- a number of the longer list is one of the front or the last
-put_split : (left : List Offer) (o : Offer) (k : ℕ) → IsOneOf k (numbers (left ++ (o ∷ []))) → IsOneOf k (numbers left) ⊎ (k ≡ o.outside)
+put_split : (left : List Offer) (o : Offer) (k : ℕ) → IsOneOf k (offer_numbers (left ++ (o ∷ []))) → IsOneOf k (offer_numbers left) ⊎ (k ≡ o.outside)
 unfolding IsOneOf
-put_split left o k i = elim (one_split k (numbers left) (o.outside ∷ []) (subst (λ z. IsOneOf k z) (numbers_put left o) i)) [
+put_split left o k i = elim (one_split k (offer_numbers left) (o.outside ∷ []) (subst (λ z. IsOneOf k z) (numbers_put left o) i)) [
   | inl j ↦ inl j
   | inr j ↦ elim j [ inl e ↦ inr e | inr n ↦ absurd n ]
 ]
 
-pub put_front : (left : List Offer) (o : Offer) (k : ℕ) → IsOneOf k (numbers left) → IsOneOf k (numbers (left ++ (o ∷ [])))
-put_front left o k i = subst (λ z. IsOneOf k z) (sym (numbers_put left o)) (one_front k (numbers left) (o.outside ∷ []) i)
+pub put_front : (left : List Offer) (o : Offer) (k : ℕ) → IsOneOf k (offer_numbers left) → IsOneOf k (offer_numbers (left ++ (o ∷ [])))
+put_front left o k i = subst (λ z. IsOneOf k z) (sym (numbers_put left o)) (one_front k (offer_numbers left) (o.outside ∷ []) i)
 
-pub put_last : (left : List Offer) (o : Offer) (k : ℕ) → k ≡ o.outside → IsOneOf k (numbers (left ++ (o ∷ [])))
+pub put_last : (left : List Offer) (o : Offer) (k : ℕ) → k ≡ o.outside → IsOneOf k (offer_numbers (left ++ (o ∷ [])))
 unfolding IsOneOf
-put_last left o k e = subst (λ z. IsOneOf k z) (sym (numbers_put left o)) (one_back k (numbers left) (o.outside ∷ []) (inl e))
+put_last left o k e = subst (λ z. IsOneOf k z) (sym (numbers_put left o)) (one_back k (offer_numbers left) (o.outside ∷ []) (inl e))
 
 -- which ones come inside
 pub entering_none : (xs : List Anchor) (c : ℕ) → IsEntering xs c [] []
 unfolding IsOneOf
 entering_none xs c = record { these = all_none (λ m. (m < length xs) × ((anchor xs m).cluster ≡ c)); whole = λ k i e. absurd i }
 
-entering_put : (xs : List Anchor) (c : ℕ) (front : List Offer) (moved : List ℕ) (o : Offer) → IsSound xs o → (anchor xs o.outside).cluster ≡ c
+entering_put : (xs : List Anchor) (c : ℕ) (front : List Offer) (moved : List ℕ) (o : Offer) → IsSoundOffer xs o → (anchor xs o.outside).cluster ≡ c
     → IsEntering xs c front moved → IsEntering xs c (front ++ (o ∷ [])) (moved ++ (o.outside ∷ []))
 unfolding IsOneOf
 entering_put xs c front moved o s e h = record {
@@ -94,7 +94,7 @@ entering_skip xs c front moved o n h = record {
   ];
 }
 
-pub entering_yes : (xs : List Anchor) (c : ℕ) (left : List Offer) (moved : List ℕ) (i : ℕ) (d : Offer) (a : Anchor) → i < length left → IsSound xs (get_or left i d)
+pub entering_yes : (xs : List Anchor) (c : ℕ) (left : List Offer) (moved : List ℕ) (i : ℕ) (d : Offer) (a : Anchor) → i < length left → IsSoundOffer xs (get_or left i d)
     → a ≡ anchor xs (get_or left i d).outside → a.cluster ≡ c
     → IsEntering xs c (take i left) moved → IsEntering xs c (take (suc i) left) (moved ++ ((get_or left i d).outside ∷ []))
 entering_yes xs c left moved i d a l s e p h = subst (λ z. IsEntering xs c z (moved ++ ((get_or left i d).outside ∷ []))) (sym (take_more left i d l))
@@ -107,23 +107,23 @@ entering_no xs c left moved i d a l e p h = subst (λ z. IsEntering xs c z moved
     (entering_skip xs c (take i left) moved (get_or left i d) (subst (λ (z : Anchor). z.cluster ≡ c → ⊥) e p) h)
 
 -- the offers of the others
-pub rest_none : (xs : List Anchor) (c : ℕ) (moved : List ℕ) → IsRest xs c moved [] []
+pub rest_none : (xs : List Anchor) (c : ℕ) (moved : List ℕ) → IsRestOfOffers xs c moved [] []
 unfolding IsOneOf
 rest_none xs c moved = record {
   offers = λ inside h. all_none (λ o. IsOffer xs (λ j. IsOneOf j inside ⊎ IsOneOf j moved) o);
-  sound = all_none (λ o. IsSound xs o);
+  sound = all_none (λ o. IsSoundOffer xs o);
   whole = λ k i n. absurd i;
   most = omega arith;
   fewer = λ k i e. absurd i;
 }
 
 rest_put : (xs : List Anchor) (c : ℕ) (moved : List ℕ) (front rest : List Offer) (o new : Offer) → ((anchor xs o.outside).cluster ≡ c → ⊥)
-    → IsImproved xs moved o new → IsRest xs c moved front rest → IsRest xs c moved (front ++ (o ∷ [])) (rest ++ (new ∷ []))
+    → IsImproved xs moved o new → IsRestOfOffers xs c moved front rest → IsRestOfOffers xs c moved (front ++ (o ∷ [])) (rest ++ (new ∷ []))
 rest_put xs c moved front rest o new n m h = record {
   offers = λ inside a. all_push (λ p. IsOffer xs (λ j. IsOneOf j inside ⊎ IsOneOf j moved) p) rest new
       (h.offers inside (all_front (λ p. IsOffer xs (λ j. IsOneOf j inside) p) front o a))
       (m.offer inside (all_last (λ p. IsOffer xs (λ j. IsOneOf j inside) p) front o a));
-  sound = all_push (λ p. IsSound xs p) rest new h.sound m.sound;
+  sound = all_push (λ p. IsSoundOffer xs p) rest new h.sound m.sound;
   whole = λ k i p. elim (put_split front o k i) [
     | inl j ↦ put_front rest new k (h.whole k j p)
     | inr j ↦ put_last rest new k (j ∙ sym m.same)
@@ -136,7 +136,7 @@ rest_put xs c moved front rest o new n m h = record {
 }
 
 rest_skip : (xs : List Anchor) (c : ℕ) (moved : List ℕ) (front rest : List Offer) (o : Offer) → (anchor xs o.outside).cluster ≡ c
-    → IsRest xs c moved front rest → IsRest xs c moved (front ++ (o ∷ [])) rest
+    → IsRestOfOffers xs c moved front rest → IsRestOfOffers xs c moved (front ++ (o ∷ [])) rest
 rest_skip xs c moved front rest o e h = record {
   offers = λ inside a. h.offers inside (all_front (λ p. IsOffer xs (λ j. IsOneOf j inside) p) front o a);
   sound = h.sound;
@@ -150,14 +150,14 @@ rest_skip xs c moved front rest o e h = record {
 
 pub rest_yes : (xs : List Anchor) (c : ℕ) (moved : List ℕ) (left rest : List Offer) (i : ℕ) (d : Offer) (a : Anchor) (new : Offer) → i < length left
     → a ≡ anchor xs (get_or left i d).outside → (a.cluster ≡ c → ⊥) → IsImproved xs moved (get_or left i d) new
-    → IsRest xs c moved (take i left) rest → IsRest xs c moved (take (suc i) left) (rest ++ (new ∷ []))
-rest_yes xs c moved left rest i d a new l e p m h = subst (λ z. IsRest xs c moved z (rest ++ (new ∷ []))) (sym (take_more left i d l))
+    → IsRestOfOffers xs c moved (take i left) rest → IsRestOfOffers xs c moved (take (suc i) left) (rest ++ (new ∷ []))
+rest_yes xs c moved left rest i d a new l e p m h = subst (λ z. IsRestOfOffers xs c moved z (rest ++ (new ∷ []))) (sym (take_more left i d l))
     (rest_put xs c moved (take i left) rest (get_or left i d) new (subst (λ (z : Anchor). z.cluster ≡ c → ⊥) e p) m h)
 
 pub rest_no : (xs : List Anchor) (c : ℕ) (moved : List ℕ) (left rest : List Offer) (i : ℕ) (d : Offer) (a : Anchor) → i < length left
     → a ≡ anchor xs (get_or left i d).outside → a.cluster ≡ c
-    → IsRest xs c moved (take i left) rest → IsRest xs c moved (take (suc i) left) rest
-rest_no xs c moved left rest i d a l e p h = subst (λ z. IsRest xs c moved z rest) (sym (take_more left i d l))
+    → IsRestOfOffers xs c moved (take i left) rest → IsRestOfOffers xs c moved (take (suc i) left) rest
+rest_no xs c moved left rest i d a l e p h = subst (λ z. IsRestOfOffers xs c moved z rest) (sym (take_more left i d l))
     (rest_skip xs c moved (take i left) rest (get_or left i d) (subst (λ (z : Anchor). z.cluster ≡ c) e p) h)
 
 -- the anchors of the cluster come inside, and no others
@@ -175,7 +175,7 @@ joined_by xs c left moved inside e r = record {
   ];
 }
 
-ring_by : (xs : List Anchor) (c : ℕ) (left rest : List Offer) (moved inside : List ℕ) → IsEntering xs c left moved → IsRest xs c moved left rest
+ring_by : (xs : List Anchor) (c : ℕ) (left rest : List Offer) (moved inside : List ℕ) → IsEntering xs c left moved → IsRestOfOffers xs c moved left rest
     → IsRing xs inside left → IsRing xs (inside ++ moved) rest
 ring_by xs c left rest moved inside e t r = record {
   sound = t.sound;
@@ -184,11 +184,11 @@ ring_by xs c left rest moved inside e t r = record {
       (λ j i. elim i [ inl p ↦ one_front j inside moved p | inr p ↦ one_back j inside moved p ])
       (λ j i. one_split j inside moved i) h)
       (t.offers inside r.offers);
-  whole = λ k l n. let w : IsOneOf k (numbers left) = r.whole k l (λ i. n (one_front k inside moved i)) in
+  whole = λ k l n. let w : IsOneOf k (offer_numbers left) = r.whole k l (λ i. n (one_front k inside moved i)) in
       t.whole k w (λ p. n (one_back k inside moved (e.whole k w p)));
 }
 
-pub absorbed_by : (xs : List Anchor) (c : ℕ) (left rest : List Offer) (moved : List ℕ) → IsEntering xs c left moved → IsRest xs c moved left rest
+pub absorbed_by : (xs : List Anchor) (c : ℕ) (left rest : List Offer) (moved : List ℕ) → IsEntering xs c left moved → IsRestOfOffers xs c moved left rest
     → IsAbsorbed xs c left rest
 absorbed_by xs c left rest moved e t = record {
   ring = λ inside r. (inside ++ moved, joined_by xs c left moved inside e r, ring_by xs c left rest moved inside e t r);
@@ -197,14 +197,14 @@ absorbed_by xs c left rest moved e t = record {
 
 -- offers to anchor 0 alone
 pub record IsStarted (xs : List Anchor) (left : List Offer) (k : ℕ) : Type 0 where
-  pub sound : All (λ o. IsSound xs o) left
+  pub sound : All (λ o. IsSoundOffer xs o) left
   pub offers : All (λ o. IsOffer xs (λ j. IsOneOf j (0 ∷ [])) o) left
-  pub whole : (j : ℕ) → j < k → (IsOneOf j (0 ∷ []) → ⊥) → IsOneOf j (numbers left)
+  pub whole : (j : ℕ) → j < k → (IsOneOf j (0 ∷ []) → ⊥) → IsOneOf j (offer_numbers left)
 
 abbrev to_first : ℕ → ℕ → Offer
 to_first k d = record { outside = k; best = record { first = 0; second = k }; length = d }
 
-first_touch : (xs : List Anchor) (k : ℕ) (f : Pair) → 0 < k → Touches xs (λ j. IsOneOf j (0 ∷ [])) k f → f ≡ record { first = 0; second = k }
+first_touch : (xs : List Anchor) (k : ℕ) (f : Pair) → 0 < k → GoesInto xs (λ j. IsOneOf j (0 ∷ [])) k f → f ≡ record { first = 0; second = k }
 unfolding IsOneOf
 first_touch xs k f l t = elim t.ends [
   | inl h ↦ elim h.1 [ inl e ↦ absurd (none f.first f.second e t.is.rising) | inr n ↦ absurd n ]
@@ -219,14 +219,14 @@ unfolding IsOneOf
 first_offer xs k d l m = record {
   out = λ i. elim i [ inl e ↦ positive k e l | inr n ↦ n ];
   touches = record { is = record { rising = l; there = m }; ends = inr (refl, inl refl) };
-  least = λ f t s. less_irr xs (record { first = 0; second = k }) (subst (λ z. IsLess xs z (record { first = 0; second = k })) (first_touch xs k f l t) s);
+  least = λ f t s. less_irr xs (record { first = 0; second = k }) (subst (λ z. HasLesserKey xs z (record { first = 0; second = k })) (first_touch xs k f l t) s);
 }
   where
     positive : (k : ℕ) → k ≡ 0 → 0 < k → ⊥
     positive k e l = omega (arith, e, l)
 
 started_whole : (xs : List Anchor) (left : List Offer) (k d j : ℕ) → IsStarted xs left k → j < suc k → (IsOneOf j (0 ∷ []) → ⊥)
-    → IsOneOf j (numbers (left ++ (to_first k d ∷ [])))
+    → IsOneOf j (offer_numbers (left ++ (to_first k d ∷ [])))
 started_whole xs left k d j s l n = elim (last_one j k l) [
   | inl m ↦ put_front left (to_first k d) j (s.whole j m n)
   | inr e ↦ put_last left (to_first k d) j e
@@ -238,7 +238,7 @@ started_whole xs left k d j s l n = elim (last_one j k l) [
 pub started_none : (xs : List Anchor) (left : List Offer) → left ≡ [] → IsStarted xs left 1
 unfolding IsOneOf
 started_none xs left e = subst (λ z. IsStarted xs z 1) (sym e) (record {
-  sound = all_none (λ o. IsSound xs o);
+  sound = all_none (λ o. IsSoundOffer xs o);
   offers = all_none (λ o. IsOffer xs (λ j. (j ≡ 0) ⊎ ⊥) o);
   whole = λ j l n. absurd (n (inl (only j l)));
 })
@@ -249,7 +249,7 @@ started_none xs left e = subst (λ z. IsStarted xs z 1) (sym e) (record {
 pub started_more : (xs : List Anchor) (left : List Offer) (k d : ℕ) → 0 < k → k < length xs → pos d ≡ dist_sq xs (record { first = 0; second = k })
     → IsStarted xs left k → IsStarted xs (left ++ (to_first k d ∷ [])) (suc k)
 started_more xs left k d l m e s = record {
-  sound = all_push (λ o. IsSound xs o) left (to_first k d) s.sound (record { there = m; is = record { rising = l; there = m }; measured = e });
+  sound = all_push (λ o. IsSoundOffer xs o) left (to_first k d) s.sound (record { there = m; is = record { rising = l; there = m }; measured = e });
   offers = all_push (λ o. IsOffer xs (λ j. IsOneOf j (0 ∷ [])) o) left (to_first k d) s.offers (first_offer xs k d l m);
   whole = λ j p n. started_whole xs left k d j s p n;
 }
@@ -262,7 +262,7 @@ pub record IsNearestOf (xs : List Anchor) (left : List Offer) (i : ℕ) (o : Off
   pub found : ℕ
   pub there : found < length left
   pub is : (d : Offer) → get_or left found d ≡ o
-  pub least : (k : ℕ) (d : Offer) → k < i → IsLess xs (get_or left k d).best o.best → ⊥
+  pub least : (k : ℕ) (d : Offer) → k < i → HasLesserKey xs (get_or left k d).best o.best → ⊥
 
 none_seen : (k : ℕ) → k < 0 → ⊥
 none_seen k l = omega (arith, l)
@@ -277,39 +277,39 @@ same_place : (left : List Offer) (k i : ℕ) (d e : Offer) → k ≡ i → i < l
 same_place left k i d e p l = subst (λ z. get_or left z d ≡ get_or left i e) (sym p) (get_or_default left i d e l)
 
 pub nearest_yes : (xs : List Anchor) (left : List Offer) (i : ℕ) (d best : Offer) → i < length left
-    → IsLess xs (get_or left i d).best best.best → IsNearestOf xs left i best → IsNearestOf xs left (suc i) (get_or left i d)
+    → HasLesserKey xs (get_or left i d).best best.best → IsNearestOf xs left i best → IsNearestOf xs left (suc i) (get_or left i d)
 nearest_yes xs left i d best l s h = record {
   found = i;
   there = l;
   is = λ e. get_or_default left i e d l;
   least = λ k e m t. elim (seen_more k i m) [
     | inl n ↦ h.least k e n (less_trans xs (get_or left k e).best (get_or left i d).best best.best t s)
-    | inr p ↦ less_irr xs (get_or left i d).best (subst (λ (z : Offer). IsLess xs z.best (get_or left i d).best) (same_place left k i e d p l) t)
+    | inr p ↦ less_irr xs (get_or left i d).best (subst (λ (z : Offer). HasLesserKey xs z.best (get_or left i d).best) (same_place left k i e d p l) t)
   ];
 }
 
 pub nearest_no : (xs : List Anchor) (left : List Offer) (i : ℕ) (d best : Offer) → i < length left
-    → (IsLess xs (get_or left i d).best best.best → ⊥) → IsNearestOf xs left i best → IsNearestOf xs left (suc i) best
+    → (HasLesserKey xs (get_or left i d).best best.best → ⊥) → IsNearestOf xs left i best → IsNearestOf xs left (suc i) best
 nearest_no xs left i d best l n h = record {
   found = h.found;
   there = h.there;
   is = h.is;
   least = λ k e m t. elim (seen_more k i m) [
     | inl o ↦ h.least k e o t
-    | inr p ↦ n (subst (λ (z : Offer). IsLess xs z.best best.best) (same_place left k i e d p l) t)
+    | inr p ↦ n (subst (λ (z : Offer). HasLesserKey xs z.best best.best) (same_place left k i e d p l) t)
   ];
 }
 
 pub nearest_all : (xs : List Anchor) (left : List Offer) (i : ℕ) (o : Offer) → length left ≤ i → IsNearestOf xs left i o → IsNearest xs left o
 nearest_all xs left i o l h = record { at = h.found; there = h.there; is = h.is; least = λ k d m. h.least k d (omega (arith, l, m)) }
 
-pub sound_found : (xs : List Anchor) (left : List Offer) (i : ℕ) (o : Offer) → All (λ p. IsSound xs p) left → IsNearestOf xs left i o → IsSound xs o
-sound_found xs left i o s n = subst (IsSound xs) (n.is o) (s n.found o n.there)
+pub sound_found : (xs : List Anchor) (left : List Offer) (i : ℕ) (o : Offer) → All (λ p. IsSoundOffer xs p) left → IsNearestOf xs left i o → IsSoundOffer xs o
+sound_found xs left i o s n = subst (IsSoundOffer xs) (n.is o) (s n.found o n.there)
 
-pub sound_seen : (xs : List Anchor) (left : List Offer) (i : ℕ) (d : Offer) → All (λ p. IsSound xs p) left → i < length left
+pub sound_seen : (xs : List Anchor) (left : List Offer) (i : ℕ) (d : Offer) → All (λ p. IsSoundOffer xs p) left → i < length left
     → pos (get_or left i d).length ≡ dist_sq xs (get_or left i d).best
-sound_seen xs left i d s l = let h : IsSound xs (get_or left i d) = s i d l in h.measured
+sound_seen xs left i d s l = let h : IsSoundOffer xs (get_or left i d) = s i d l in h.measured
 
-pub sound_best : (xs : List Anchor) (left : List Offer) (i : ℕ) (o : Offer) → All (λ p. IsSound xs p) left → IsNearestOf xs left i o
+pub sound_best : (xs : List Anchor) (left : List Offer) (i : ℕ) (o : Offer) → All (λ p. IsSoundOffer xs p) left → IsNearestOf xs left i o
     → pos o.length ≡ dist_sq xs o.best
-sound_best xs left i o s n = let h : IsSound xs o = sound_found xs left i o s n in h.measured
+sound_best xs left i o s n = let h : IsSoundOffer xs o = sound_found xs left i o s n in h.measured

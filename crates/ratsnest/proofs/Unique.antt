@@ -6,19 +6,19 @@ use Rattle.std.specs.Bool.{Decides}
 use Rattle.classes.specs.Classes.{IsOneOf}
 use Rattle.ratsnest.specs.declared.Anchor.{Anchor}
 use Rattle.ratsnest.specs.declared.Pair.{Pair}
-use Rattle.ratsnest.specs.Ratsnest.{AreEnds, IsNext, IsGrown, IsTree}
+use Rattle.ratsnest.specs.Ratsnest.{AreEndsOf, IsNextPair, IsGrown, IsTree}
 use Rattle.ratsnest.proofs.Order.{less_cases}
 use Rattle.ratsnest.proofs.Least.{end_in}
 
-next_same : (xs : List Anchor) (done : List ℕ) (e : Pair) (u c : ℕ) (f : Pair) (v d : ℕ) → IsNext xs done e u c → IsNext xs done f v d → e ≡ f
+next_same : (xs : List Anchor) (done : List ℕ) (e : Pair) (u c : ℕ) (f : Pair) (v d : ℕ) → IsNextPair xs done e u c → IsNextPair xs done f v d → e ≡ f
 next_same xs done e u c f v d n m = elim (less_cases xs e f) [
   | inl k ↦ absurd (m.least e u c n.leaving k)
   | inr o ↦ elim o [ inl p ↦ p | inr k ↦ absurd (n.least f v d m.leaving k) ]
 ]
 
-end_same : (xs : List Anchor) (done : List ℕ) (e : Pair) (u c v d : ℕ) → AreEnds xs e u c → AreEnds xs e v d
+end_same : (xs : List Anchor) (done : List ℕ) (e : Pair) (u c v d : ℕ) → AreEndsOf xs e u c → AreEndsOf xs e v d
     → IsOneOf u done → (IsOneOf d done → ⊥) → c ≡ d
-unfolding AreEnds
+unfolding AreEndsOf
 end_same xs done e u c v d (inl (p, q)) (inl (r, s)) i k = q ∙ sym s
 end_same xs done e u c v d (inl (p, q)) (inr (r, s)) i k = absurd (k (subst (λ z. IsOneOf z done) (p ∙ sym s) i))
 end_same xs done e u c v d (inr (p, q)) (inl (r, s)) i k = absurd (k (subst (λ z. IsOneOf z done) (p ∙ sym s) i))
@@ -31,7 +31,7 @@ grown_one xs done [] (f ∷ fs) g (v, d, m, h) = absurd (m.leaving.new (g d (end
 grown_one xs done (e ∷ es) [] (u, c, n, g) h = absurd (n.leaving.new (h c (end_in xs e u c n.leaving.is n.leaving.ends)))
 grown_one xs done (e ∷ es) (f ∷ fs) (u, c, n, g) (v, d, m, h) =
     let p : e ≡ f = next_same xs done e u c f v d n m in
-    let q : c ≡ d = end_same xs done f u c v d (subst (λ z. AreEnds xs z u c) p n.leaving.ends) m.leaving.ends n.leaving.from m.leaving.new in
+    let q : c ≡ d = end_same xs done f u c v d (subst (λ z. AreEndsOf xs z u c) p n.leaving.ends) m.leaving.ends n.leaving.from m.leaving.new in
     ap (λ z. z ∷ es) p ∙ ap (λ zs. f ∷ zs) (grown_one xs (c ∷ done) es fs g (subst (λ z. IsGrown xs (z ∷ done) fs) (sym q) h))
 
 pub tree_one : (xs : List Anchor) (es fs : List Pair) → IsTree xs es → IsTree xs fs → es ≡ fs

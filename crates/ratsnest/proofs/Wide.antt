@@ -5,7 +5,7 @@ use Rattle.std.specs.Prelude.{ℤ, pos, negsuc, neg_ℤ, ◌+ℤ◌, ◌-ℤ◌,
 use Rattle.std.proofs.lemmas.Int.{ints, to_z-of_z}
 use Rattle.ratsnest.specs.declared.Anchor.{Anchor}
 use Rattle.ratsnest.specs.declared.Pair.{Pair}
-use Rattle.ratsnest.specs.Ratsnest.{anchor, dist_sq, IsLess}
+use Rattle.ratsnest.specs.Ratsnest.{anchor, dist_sq, HasLesserKey}
 use Rattle.ratsnest.specs.Ratsnest.{IsNearby}
 
 pub key_move : (r : Bool) (d e g h : ℤ) (i j k l : ℕ) → d ≡ e → g ≡ h
@@ -40,8 +40,8 @@ dist_move xs e a b r p q n m h = let n2 : IsNearby a = subst IsNearby (sym p) n 
 
 -- where the squared distances are known, the order of keys is that of pairs
 pub key_less : (xs : List Anchor) (e f : Pair) (d g : ℕ) (r : Bool) → pos d ≡ dist_sq xs e → pos g ≡ dist_sq xs f
-    → (IsTrue r ↔ ((d < g) ⊎ ((d ≡ g) × ((e.first < f.first) ⊎ ((e.first ≡ f.first) × (e.second < f.second)))))) → IsTrue r ↔ IsLess xs e f
-unfolding IsLess
+    → (IsTrue r ↔ ((d < g) ⊎ ((d ≡ g) × ((e.first < f.first) ⊎ ((e.first ≡ f.first) × (e.second < f.second)))))) → IsTrue r ↔ HasLesserKey xs e f
+unfolding HasLesserKey
 key_less xs e f d g r p q h = key_move r (pos d) (dist_sq xs e) (pos g) (dist_sq xs f) e.first e.second f.first f.second p q (
   λ t. elim (h.0 t) [ inl l ↦ inl (omega (arith, ints, l)) | inr k ↦ inr (ap pos k.0, k.1) ],
   λ t. elim t [ inl l ↦ h.1 (inl (omega (arith, ints, l))) | inr k ↦ h.1 (inr (omega (arith, ints, k.0), k.1)) ],

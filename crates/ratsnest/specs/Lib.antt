@@ -1,2 +1,2 @@
 pub mod Ratsnest
-pub mod Best
+pub mod Inner

@@ -30,12 +30,13 @@ pub record IsPair (xs : List Anchor) (e : Pair) : Type 0 where
 unfoldable pub start : List Anchor → Pair → ℕ
 start xs e = (anchor xs e.first).cluster
 
+-- the cluster of its second anchor
 unfoldable pub finish : List Anchor → Pair → ℕ
 finish xs e = (anchor xs e.second).cluster
 
 -- c and d are these two, in one of the two orders
-unfoldable pub AreEnds : List Anchor → Pair → ℕ → ℕ → Type 0
-AreEnds xs e c d = ((c ≡ start xs e) × (d ≡ finish xs e)) ⊎ ((c ≡ finish xs e) × (d ≡ start xs e))
+unfoldable pub AreEndsOf : List Anchor → Pair → ℕ → ℕ → Type 0
+AreEndsOf xs e c d = ((c ≡ start xs e) × (d ≡ finish xs e)) ⊎ ((c ≡ finish xs e) × (d ≡ start xs e))
 
 -- the squared distance of the two anchors
 unfoldable pub dist_sq : List Anchor → Pair → ℤ
@@ -43,43 +44,43 @@ dist_sq xs e = (((anchor xs e.first).at.x -ℤ (anchor xs e.second).at.x) *ℤ (
     +ℤ (((anchor xs e.first).at.y -ℤ (anchor xs e.second).at.y) *ℤ ((anchor xs e.first).at.y -ℤ (anchor xs e.second).at.y))
 
 -- e has the lesser key: by squared distance, then by the lesser number, then by the greater
-unfoldable pub IsLess : List Anchor → Pair → Pair → Type 0
-IsLess xs e f = (dist_sq xs e <ℤ dist_sq xs f)
+unfoldable pub HasLesserKey : List Anchor → Pair → Pair → Type 0
+HasLesserKey xs e f = (dist_sq xs e <ℤ dist_sq xs f)
     ⊎ ((dist_sq xs e ≡ dist_sq xs f) × ((e.first < f.first) ⊎ ((e.first ≡ f.first) × (e.second < f.second))))
 
 -- one of the pairs in P goes from cluster c to cluster d
-pub record IsLinked (xs : List Anchor) (P : Pair → Type 0) (c d : ℕ) : Type 0 where
+pub record IsLinkedBy (xs : List Anchor) (P : Pair → Type 0) (c d : ℕ) : Type 0 where
   pub by : Pair
   pub is : IsPair xs by
   pub one : P by
-  pub ends : AreEnds xs by c d
+  pub ends : AreEndsOf xs by c d
 
 -- the pairs in P join the two clusters
-abbrev pub AreJoined : List Anchor → (Pair → Type 0) → ℕ → ℕ → Type 0
-AreJoined xs P c d = Reaches (IsLinked xs P) c d
+abbrev pub AreJoinedBy : List Anchor → (Pair → Type 0) → ℕ → ℕ → Type 0
+AreJoinedBy xs P c d = Reaches (IsLinkedBy xs P) c d
 
 -- a pair is in the ratsnest exactly where its clusters differ and aren't joined by pairs of lesser key
 pub record InRatsnest (xs : List Anchor) (e : Pair) : Type 0 where
   pub is : IsPair xs e
   pub differ : start xs e ≡ finish xs e → ⊥
-  pub apart : AreJoined xs (λ f. IsLess xs f e) (start xs e) (finish xs e) → ⊥
+  pub apart : AreJoinedBy xs (λ f. HasLesserKey xs f e) (start xs e) (finish xs e) → ⊥
 
 -- e leaves the joined clusters: it goes from one of them, u, to c, which is none of them
 pub record IsLeaving (xs : List Anchor) (done : List ℕ) (e : Pair) (u c : ℕ) : Type 0 where
   pub is : IsPair xs e
-  pub ends : AreEnds xs e u c
+  pub ends : AreEndsOf xs e u c
   pub from : IsOneOf u done
   pub new : IsOneOf c done → ⊥
 
 -- and no pair of lesser key leaves them
-pub record IsNext (xs : List Anchor) (done : List ℕ) (e : Pair) (u c : ℕ) : Type 0 where
+pub record IsNextPair (xs : List Anchor) (done : List ℕ) (e : Pair) (u c : ℕ) : Type 0 where
   pub leaving : IsLeaving xs done e u c
-  pub least : (f : Pair) (v d : ℕ) → IsLeaving xs done f v d → IsLess xs f e → ⊥
+  pub least : (f : Pair) (v d : ℕ) → IsLeaving xs done f v d → HasLesserKey xs f e → ⊥
 
 -- each pair is the one of least key that leaves the clusters joined so far, and at the end all clusters are joined
 unfoldable pub IsGrown : List Anchor → List ℕ → List Pair → Type 0
 IsGrown xs done [] = (c : ℕ) → IsCluster xs c → IsOneOf c done
-IsGrown xs done (e ∷ es) = (u : ℕ) × (c : ℕ) × IsNext xs done e u c × IsGrown xs (c ∷ done) es
+IsGrown xs done (e ∷ es) = (u : ℕ) × (c : ℕ) × IsNextPair xs done e u c × IsGrown xs (c ∷ done) es
 
 -- the joining order begins with the cluster of anchor 0
 unfoldable pub IsTree : List Anchor → List Pair → Type 0
@@ -87,9 +88,9 @@ IsTree [] es = es ≡ []
 IsTree (a ∷ xs) es = IsGrown (a ∷ xs) (a.cluster ∷ []) es
 
 -- a list of pairs that joins all clusters
-pub record IsJoining (xs : List Anchor) (es : List Pair) : Type 0 where
+pub record JoinsAll (xs : List Anchor) (es : List Pair) : Type 0 where
   pub pairs : (e : Pair) → IsOneOf e es → IsPair xs e
-  pub joins : (c d : ℕ) → IsCluster xs c → IsCluster xs d → AreJoined xs (λ e. IsOneOf e es) c d
+  pub joins : (c d : ℕ) → IsCluster xs c → IsCluster xs d → AreJoinedBy xs (λ e. IsOneOf e es) c d
 
 -- how many pairs of the list are longer than a length, which is given by its square
 unfoldable pub longer : List Anchor → ℤ → List Pair → ℕ
@@ -116,9 +117,9 @@ HasOneFewer (a ∷ xs) es = (all : List ℕ) × HasClusters (a ∷ xs) all × (l
 -- are clusters, and no list that joins all clusters has fewer pairs longer than some length
 pub record IsLeastTree (xs : List Anchor) (es : List Pair) : Type 0 where
   pub exact : (e : Pair) → IsOneOf e es ↔ InRatsnest xs e
-  pub joining : IsJoining xs es
+  pub joining : JoinsAll xs es
   pub fewer : HasOneFewer xs es
-  pub least : (others : List Pair) (square : ℤ) → IsJoining xs others → longer xs square es ≤ longer xs square others
+  pub least : (others : List Pair) (square : ℤ) → JoinsAll xs others → longer xs square es ≤ longer xs square others
 
 -- the ratsnest in joining order is a least tree, and one list alone is that
 pub record TreeLaw : Type 0 where

@@ -1,7 +1,7 @@
 // The keys of pairs, and which is the lesser.
 ghost use Rattle.std.specs.Prelude.{◌≡◌, ◌↔◌, ◌⊎◌, ◌<◌, ℤ, pos, neg_ℤ, ◌+ℤ◌, ◌≤ℤ◌, ◌*ℤ◌, ◌-ℤ◌, length, List, IsTrue};
 ghost use Rattle.std.specs.List.{All};
-ghost use Rattle.ratsnest.specs.Ratsnest.{IsNearby, IsLess, anchor, dist_sq};
+ghost use Rattle.ratsnest.specs.Ratsnest.{IsNearby, HasLesserKey, anchor, dist_sq};
 ghost use Rattle.ratsnest.specs.declared.Anchor.{Anchor};
 
 use crate::{Anchor, Pair};
@@ -101,7 +101,7 @@ fn is_less_key(d: u64, i: u32, j: u32, g: u64, k: u32, l: u32) -> bool
 
 // Whether e has the lesser key, where d and g are the squared distances of e and f.
 pub(crate) fn is_less(e: Pair, d: u64, f: Pair, g: u64) -> bool
-    ensures { (xs : List Anchor) → pos d ≡ dist_sq xs e → pos g ≡ dist_sq xs f → IsTrue result ↔ IsLess xs e f }
+    ensures { (xs : List Anchor) → pos d ≡ dist_sq xs e → pos g ≡ dist_sq xs f → IsTrue result ↔ HasLesserKey xs e f }
 {
     is_less_key(d, e.first, e.second, g, f.first, f.second)
 }

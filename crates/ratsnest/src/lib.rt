@@ -10,8 +10,6 @@ ghost use Rattle.ratsnest.specs.Ratsnest.{IsNearby, IsTree, IsLeastTree, TreeLaw
 mod grow;
 mod key;
 mod offers;
-#[cfg(test)]
-mod tests;
 
 use crate::grow::grown;
 use grid_num::{Memory, Point};

@@ -4,7 +4,7 @@ ghost use Rattle.std.specs.Prelude.{◌≡◌, ◌⊎◌, ℕ, ◌<◌, ◌≤�
 ghost use Rattle.std.specs.List.{All};
 ghost use Rattle.ratsnest.specs.Ratsnest.{IsNearby, IsPair, IsTree, anchor};
 ghost use Rattle.ratsnest.specs.declared.Anchor.{Anchor};
-ghost use Rattle.ratsnest.specs.Best.{IsBetween, IsBetter, IsImproved, IsSound, IsEntering, IsRest, IsRing, IsAbsorbed, IsNearest, MayMeet};
+ghost use Rattle.ratsnest.specs.Inner.Best.{IsBetween, IsBetter, IsImproved, IsSoundOffer, IsEntering, IsRestOfOffers, IsRing, IsAbsorbed, IsNearest, MayMeet};
 
 use crate::key::{anchor_at, dist, is_less};
 use crate::{Anchor, Pair};
@@ -40,7 +40,7 @@ fn pair_of(i: u32, j: u32) -> Pair
 // The offer, where m is inside too.
 fn better(anchors: &[Anchor], o: Offer, m: u32) -> Offer
     requires near { All IsNearby anchors.now }
-    requires sound { IsSound anchors.now o }
+    requires sound { IsSoundOffer anchors.now o }
     requires meets { MayMeet anchors.now o.outside m }
     ensures { IsBetter anchors.now m o result }
 {
@@ -60,7 +60,7 @@ fn better(anchors: &[Anchor], o: Offer, m: u32) -> Offer
 // The offer, where all the moved anchors are inside too.
 fn improved(anchors: &[Anchor], o: Offer, moved: &[u32]) -> Offer
     requires near { All IsNearby anchors.now }
-    requires sound { IsSound anchors.now o }
+    requires sound { IsSoundOffer anchors.now o }
     requires meets { All (λ m. MayMeet anchors.now o.outside m) moved.now }
     ensures { IsImproved anchors.now moved.now o result }
 {
@@ -78,7 +78,7 @@ fn entering(
     left: &[Offer],
     cluster: u32,
 ) -> Result<Vec<u32>, Memory>
-    requires sound { All (λ o. IsSound anchors.now o) left.now }
+    requires sound { All (λ o. IsSoundOffer anchors.now o) left.now }
     ensures { IfOk result (λ moved. IsEntering anchors.now cluster left.now moved.items) }
 {
     let mut moved = Vec::new(alloc);
@@ -99,9 +99,9 @@ fn others(
     moved: &[u32],
 ) -> Result<Vec<Offer>, Memory>
     requires near { All IsNearby anchors.now }
-    requires sound { All (λ o. IsSound anchors.now o) left.now }
+    requires sound { All (λ o. IsSoundOffer anchors.now o) left.now }
     requires entering { IsEntering anchors.now cluster left.now moved.now }
-    ensures { IfOk result (λ rest. IsRest anchors.now cluster moved.now left.now rest.items) }
+    ensures { IfOk result (λ rest. IsRestOfOffers anchors.now cluster moved.now left.now rest.items) }
 {
     let mut rest = Vec::new(alloc);
     'each: for o in left {
@@ -120,7 +120,7 @@ pub(crate) fn absorbed(
     cluster: u32,
 ) -> Result<Vec<Offer>, Memory>
     requires near { All IsNearby anchors.now }
-    requires sound { All (λ o. IsSound anchors.now o) left.now }
+    requires sound { All (λ o. IsSoundOffer anchors.now o) left.now }
     ensures { IfOk result (λ rest. IsAbsorbed anchors.now cluster left.now rest.items) }
 {
     let moved = entering(alloc, anchors, left, cluster)?;
@@ -130,7 +130,7 @@ pub(crate) fn absorbed(
 // The offer of least key.
 pub(crate) fn nearest(left: &[Offer]) -> Offer
     requires some { 0 < length left.now }
-    ensures { (xs : List Anchor) → All (λ o. IsSound xs o) left.now → IsNearest xs left.now result }
+    ensures { (xs : List Anchor) → All (λ o. IsSoundOffer xs o) left.now → IsNearest xs left.now result }
 {
     let mut best = left[0];
     'each: for o in left {

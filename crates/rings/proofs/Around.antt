@@ -4,11 +4,11 @@ use Rattle.std.specs.Prelude.{pos, negsuc, ◌+ℤ◌, ◌-ℤ◌, ◌*ℤ◌, �
 use Rattle.std.proofs.lemmas.Int.{ints, by_lt_z}
 use Rattle.plane.specs.Plane.{PlanePoint}
 use Rattle.grid_num.specs.declared.Point.{Point}
-use Rattle.covering.specs.Covering.{Edge}
+use Rattle.plane.specs.Covering.{Edge}
 use Rattle.strips.specs.declared.Strip.{Strip}
 use Rattle.strips.specs.Strips.{IsTrapezoid}
 use Rattle.rings.specs.Turning.{direction}
-use Rattle.rings.specs.Boundary.{left_edge, right_edge, IsCorner, HasAbove, HasBelow, IsStrictlyFrom, AreNeighbours, IsLevelPart}
+use Rattle.rings.specs.Boundary.{left_edge, right_edge, IsCorner, HasCopperAbove, HasCopperBelow, IsStrictlyFrom, AreNeighbours, IsLevelPart}
 use Rattle.rings.proofs.Lists.{Has}
 use Rattle.rings.proofs.Order.{point_same}
 use Rattle.rings.proofs.Lines.{direction_low}
@@ -75,25 +75,25 @@ over_right ss s v o h =
     )
 
 -- ---- copper next to the row, and the points half a unit away
-pub below_left : (ss : List Strip) (v : Point) → AreOrdered ss → HasCopper ss v 4 ↔ HasBelow ss (left_of v)
+pub below_left : (ss : List Strip) (v : Point) → AreOrdered ss → HasCopper ss v 4 ↔ HasCopperBelow ss (left_of v)
 below_left ss v o = (
   λ c. of_under ss (left_of v) c.strip o ((under_left ss c.strip v o c.one).0 c.is),
   λ b. (let u = under_of ss (left_of v) o b in record { strip = u.0; one = (u.1).one; is = (under_left ss u.0 v o (u.1).one).1 u.1 }),
 )
 
-pub below_right : (ss : List Strip) (v : Point) → AreOrdered ss → HasCopper ss v 7 ↔ HasBelow ss (right_of v)
+pub below_right : (ss : List Strip) (v : Point) → AreOrdered ss → HasCopper ss v 7 ↔ HasCopperBelow ss (right_of v)
 below_right ss v o = (
   λ c. of_under ss (right_of v) c.strip o ((under_right ss c.strip v o c.one).0 c.is),
   λ b. (let u = under_of ss (right_of v) o b in record { strip = u.0; one = (u.1).one; is = (under_right ss u.0 v o (u.1).one).1 u.1 }),
 )
 
-pub above_left : (ss : List Strip) (v : Point) → AreOrdered ss → HasCopper ss v 3 ↔ HasAbove ss (left_of v)
+pub above_left : (ss : List Strip) (v : Point) → AreOrdered ss → HasCopper ss v 3 ↔ HasCopperAbove ss (left_of v)
 above_left ss v o = (
   λ c. of_over ss (left_of v) c.strip o ((over_left ss c.strip v o c.one).0 c.is),
   λ b. (let u = over_of ss (left_of v) o b in record { strip = u.0; one = (u.1).one; is = (over_left ss u.0 v o (u.1).one).1 u.1 }),
 )
 
-pub above_right : (ss : List Strip) (v : Point) → AreOrdered ss → HasCopper ss v 0 ↔ HasAbove ss (right_of v)
+pub above_right : (ss : List Strip) (v : Point) → AreOrdered ss → HasCopper ss v 0 ↔ HasCopperAbove ss (right_of v)
 above_right ss v o = (
   λ c. of_over ss (right_of v) c.strip o ((over_right ss c.strip v o c.one).0 c.is),
   λ b. (let u = over_of ss (right_of v) o b in record { strip = u.0; one = (u.1).one; is = (over_right ss u.0 v o (u.1).one).1 u.1 }),

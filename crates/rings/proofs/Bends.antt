@@ -9,11 +9,11 @@ use Rattle.std.proofs.lemmas.List.{append-nil}
 use Rattle.std.proofs.lemmas.List.Elements.{All-head, All-tail}
 use Rattle.std.proofs.lemmas.List.Sorted.{IsPermutation-append_comm}
 use Rattle.grid_num.specs.declared.Point.{Point}
-use Rattle.covering.specs.Covering.{Edge, edges_to, edges_of}
-use Rattle.covering.proofs.Split.{AreAlike, alike_order}
-use Rattle.covering.proofs.Chains.{alike_refl, alike_sym, alike_trans, alike_append, straight_alike}
-use Rattle.rings.specs.Turning.{direction, IsNext}
-use Rattle.rings.specs.Walks.{last_of, visits_after, visits, IsWalk, corner, is_bend, bends, IsSameRound, IsContour}
+use Rattle.plane.specs.Covering.{Edge, edges_to, edges_of}
+use Rattle.plane.proofs.Split.{AreAlike, alike_order}
+use Rattle.plane.proofs.Chains.{alike_refl, alike_sym, alike_trans, alike_append, straight_alike}
+use Rattle.rings.specs.Turning.{direction, IsNextEdge}
+use Rattle.rings.specs.Walks.{last_of, visits_after, visits, IsWalk, visit_corner, is_bend, bends, IsSameRound, IsContour}
 use Rattle.rings.proofs.Lists.{has_of, round_sym, round_trans}
 use Rattle.rings.proofs.Lines.{line, along, IsGood, direction_low, straight_at}
 use Rattle.rings.proofs.Parted.{AreGood}
@@ -47,7 +47,7 @@ Linked e [] = Unit {0}
 Linked e (b ∷ bs) = (b.start ≡ e.finish) × IsGood b × Linked b bs
 
 unfoldable pub tail_bends : Edge → List Edge → List Point
-tail_bends e bs = map corner (filter is_bend (visits_after e bs))
+tail_bends e bs = map visit_corner (filter is_bend (visits_after e bs))
 
 pub bends_yes : (e b : Edge) (bs : List Edge) → is_bend (record { comes = e; goes = b }) ≡ true → tail_bends e (b ∷ bs) ≡ b.start ∷ tail_bends b bs
 unfolding tail_bends visits_after
@@ -110,12 +110,12 @@ pub bends_first : (a : Edge) (bs : List Edge) → is_bend (first_visit a bs) ≡
 unfolding first_visit bends visits tail_bends visits_after
 bends_first a bs h = rw h refl
 
-linked_from : (es : List Edge) (e : Edge) (bs : List Edge) → AreGood es → All (λ v. IsNext es v.comes v.goes) (visits_after e bs) → Linked e bs
+linked_from : (es : List Edge) (e : Edge) (bs : List Edge) → AreGood es → All (λ v. IsNextEdge es v.comes v.goes) (visits_after e bs) → Linked e bs
 unfolding Linked visits_after AreGood
 linked_from es e [] g h = tt
 linked_from es e (b ∷ bs) g h =
-    let n = All-head (λ v. IsNext es v.comes v.goes) (record { comes = e; goes = b }) (visits_after b bs) h in
-    (n.joins, g b (has_of es b n.one), linked_from es b bs g (All-tail (λ v. IsNext es v.comes v.goes) (record { comes = e; goes = b }) (visits_after b bs) h))
+    let n = All-head (λ v. IsNextEdge es v.comes v.goes) (record { comes = e; goes = b }) (visits_after b bs) h in
+    (n.joins, g b (has_of es b n.one), linked_from es b bs g (All-tail (λ v. IsNextEdge es v.comes v.goes) (record { comes = e; goes = b }) (visits_after b bs) h))
 
 -- a walk's first edge, and what follows
 pub record IsLinkedWalk (a : Edge) (bs : List Edge) : Type 0 where
@@ -126,11 +126,11 @@ pub record IsLinkedWalk (a : Edge) (bs : List Edge) : Type 0 where
 pub linked_walk : (es : List Edge) (a : Edge) (bs : List Edge) → AreGood es → IsWalk es (a ∷ bs) → IsLinkedWalk a bs
 unfolding first_visit AreGood
 linked_walk es a bs g w =
-    let n = subst (All (λ u. IsNext es u.comes u.goes)) (visits_head a bs) w.next in
-    let f = All-head (λ v. IsNext es v.comes v.goes) (first_visit a bs) (visits_after a bs) n in
+    let n = subst (All (λ u. IsNextEdge es u.comes u.goes)) (visits_head a bs) w.next in
+    let f = All-head (λ v. IsNextEdge es v.comes v.goes) (first_visit a bs) (visits_after a bs) n in
     record {
       good = g a (has_of es a f.one);
-      linked = linked_from es a bs g (All-tail (λ v. IsNext es v.comes v.goes) (first_visit a bs) (visits_after a bs) n);
+      linked = linked_from es a bs g (All-tail (λ v. IsNextEdge es v.comes v.goes) (first_visit a bs) (visits_after a bs) n);
       closed = f.joins;
     }
 

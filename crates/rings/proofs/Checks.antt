@@ -12,20 +12,20 @@ use Rattle.std.proofs.lemmas.List.Kept.{AllPairs-cons}
 use Rattle.std.proofs.lemmas.List.Sorted.{IsPermutation-refl, IsPermutation-cons, IsPermutation-trans, IsPermutation-insert}
 use lib.IntN.{*ℤ-zero}
 use Rattle.plane.specs.Plane.{PlanePoint, grid_point}
-use Rattle.plane.proofs.Times.{mul_le, mul_lt}
+use Rattle.grid_num.proofs.Products.{mul_le, mul_lt}
 use Rattle.rings.proofs.Parted.{same_factor}
 use Rattle.grid_num.specs.declared.Point.{Point}
-use Rattle.covering.specs.Covering.{Edge, IsOn, Between}
-use Rattle.covering.proofs.Lists.{any_head, any_tail}
-use Rattle.covering.proofs.Counts.{less_true, less_false, most_false}
-use Rattle.covering.specs.Edges.{turned, IsOctilinear}
-use Rattle.covering.proofs.On.{at}
-use Rattle.covering.proofs.Laws.{on_turned}
+use Rattle.plane.specs.Covering.{Edge, IsOn, Between}
+use Rattle.plane.proofs.Lists.{any_head, any_tail}
+use Rattle.plane.proofs.Counts.{less_true, less_false, most_false}
+use Rattle.plane.specs.Edges.{turned_back, IsOctilinear}
+use Rattle.plane.proofs.On.{at}
+use Rattle.plane.proofs.CoverLaws.{on_turned}
 use Rattle.rings.specs.Slits.{IsSlit}
 use Rattle.rings.specs.Rings.{holes_of, with_slits, AreRingsOf}
 use Rattle.rings.proofs.Slits.{any_has}
-use Rattle.rings.specs.Turning.{direction, turn_to, IsNext}
-use Rattle.rings.specs.Walks.{Visit, visits, IsWalk, corner, bends, IsLess, IsListLess, IsContour, joined, AreContours}
+use Rattle.rings.specs.Turning.{direction, turn_to, IsNextEdge}
+use Rattle.rings.specs.Walks.{Visit, visits, IsWalk, visit_corner, bends, IsLess, IsListLess, IsContour, joined_walks, AreContours}
 use Rattle.rings.specs.Loops.{Loop, IsHole, AreLoopsOf}
 use Rattle.rings.proofs.Lists.{Has, has_of, of_has, all_of, all_at, round_refl}
 use Rattle.rings.proofs.Order.{point_same}
@@ -88,7 +88,7 @@ later e f g = if_then (same_point g.start e.finish) (nat_le (turn_to e (directio
 unfoldable pub is_next : List Edge → Visit → Bool
 is_next es v = has_edge v.goes es && (same_point v.goes.start v.comes.finish && list_all (later v.comes v.goes) es)
 
-next_told : (es : List Edge) (v : Visit) → is_next es v ≡ true → IsNext es v.comes v.goes
+next_told : (es : List Edge) (v : Visit) → is_next es v ≡ true → IsNextEdge es v.comes v.goes
 unfolding is_next later
 next_told es v h =
     let a = and_both (has_edge v.goes es) (same_point v.goes.start v.comes.finish && list_all (later v.comes v.goes) es) h in
@@ -119,7 +119,7 @@ walk_told es w h =
     let a = and_both (is_some w) (list_all (is_next es) (visits w)) h in
     record {
       some = some_told w a.0;
-      next = all_of (λ v. IsNext es v.comes v.goes) (visits w) (λ v i. next_told es v (list_told (is_next es) (visits w) a.1 v i));
+      next = all_of (λ v. IsNextEdge es v.comes v.goes) (visits w) (λ v i. next_told es v (list_told (is_next es) (visits w) a.1 v i));
     }
 
 -- ---- the order of corners and of lists
@@ -255,7 +255,7 @@ rising_told (c ∷ cs) h =
     AllPairs-cons IsListLess c cs (all_of (IsListLess c) cs (λ b i. less_list_told c b (list_told (less_list c) cs s.0 b i))) (rising_told cs s.1)
 
 unfoldable pub is_round : List Edge → List (List Edge) → Bool
-is_round es ws = is_permuted (joined ws) es && (list_all (is_walk es) ws && (list_all is_contour ws && is_rising (map bends ws)))
+is_round es ws = is_permuted (joined_walks ws) es && (list_all (is_walk es) ws && (list_all is_contour ws && is_rising (map bends ws)))
 
 drawn_told : (ws : List (List Edge)) → list_all is_contour ws ≡ true → AllZip IsContour ws (map bends ws)
 drawn_told [] h = tt
@@ -264,11 +264,11 @@ drawn_told (w ∷ ws) h = let s = and_both (is_contour w) (list_all is_contour w
 pub round_told : (es : List Edge) (ws : List (List Edge)) → is_round es ws ≡ true → AreContours es ws (map bends ws)
 unfolding is_round
 round_told es ws h =
-    let a = and_both (is_permuted (joined ws) es) (list_all (is_walk es) ws && (list_all is_contour ws && is_rising (map bends ws))) h in
+    let a = and_both (is_permuted (joined_walks ws) es) (list_all (is_walk es) ws && (list_all is_contour ws && is_rising (map bends ws))) h in
     let b = and_both (list_all (is_walk es) ws) (list_all is_contour ws && is_rising (map bends ws)) a.1 in
     let c = and_both (list_all is_contour ws) (is_rising (map bends ws)) b.1 in
     record {
-      once = permuted_told (joined ws) es a.0;
+      once = permuted_told (joined_walks ws) es a.0;
       next = all_of (IsWalk es) ws (λ w i. walk_told es w (list_told (is_walk es) ws b.0 w i));
       draw = drawn_told ws c.0;
       order = rising_told (map bends ws) c.1;
@@ -276,7 +276,7 @@ round_told es ws h =
 
 -- ---- loops
 unfoldable pub is_open_left : List Edge → Visit → Bool
-is_open_left w v = nat_lt (turn_to v.comes 4) (turn_to v.comes (direction v.goes)) && list_all (λ u. not (less_point (corner u) (corner v))) (visits w)
+is_open_left w v = nat_lt (turn_to v.comes 4) (turn_to v.comes (direction v.goes)) && list_all (λ u. not (less_point (visit_corner u) (visit_corner v))) (visits w)
 
 unfoldable pub some_visit : (Visit → Bool) → List Visit → Bool
 some_visit p [] = false
@@ -314,12 +314,12 @@ unfolding is_hole is_open_left IsHole
 hole_exact w = (
   λ h. (
       let r = visit_told (is_open_left w) (visits w) h in
-      let s = and_both (nat_lt (turn_to r.0.comes 4) (turn_to r.0.comes (direction r.0.goes))) (list_all (λ u. not (less_point (corner u) (corner r.0))) (visits w)) r.2 in (
+      let s = and_both (nat_lt (turn_to r.0.comes 4) (turn_to r.0.comes (direction r.0.goes))) (list_all (λ u. not (less_point (visit_corner u) (visit_corner r.0))) (visits w)) r.2 in (
         r.0,
         record {
           one = of_has (visits w) r.0 r.1;
-          least = all_of (λ u. IsLess (corner u) (corner r.0) → ⊥) (visits w)
-              (λ u i l. not_told (less_point (corner u) (corner r.0)) (list_told (λ u. not (less_point (corner u) (corner r.0))) (visits w) s.1 u i) (less_meets (corner u) (corner r.0) l));
+          least = all_of (λ u. IsLess (visit_corner u) (visit_corner r.0) → ⊥) (visits w)
+              (λ u i l. not_told (less_point (visit_corner u) (visit_corner r.0)) (list_told (λ u. not (less_point (visit_corner u) (visit_corner r.0))) (visits w) s.1 u i) (less_meets (visit_corner u) (visit_corner r.0) l));
           passes = ltb-true (turn_to r.0.comes 4) (turn_to r.0.comes (direction r.0.goes)) s.0;
         },
       )
@@ -328,9 +328,9 @@ hole_exact w = (
       let v = k.0 in
       let o = k.1 in
       visit_meets (is_open_left w) (visits w) v (has_of (visits w) v o.one)
-      (ap (λ c. c && list_all (λ u. not (less_point (corner u) (corner v))) (visits w)) (lt-ltb (turn_to v.comes 4) (turn_to v.comes (direction v.goes)) o.passes)
-      ∙ all_meets (λ u. not (less_point (corner u) (corner v))) (visits w)
-      (λ u i. not_meets (less_point (corner u) (corner v)) (λ l. all_at (λ u. IsLess (corner u) (corner v) → ⊥) (visits w) u o.least i (less_told (corner u) (corner v) l))))
+      (ap (λ c. c && list_all (λ u. not (less_point (visit_corner u) (visit_corner v))) (visits w)) (lt-ltb (turn_to v.comes 4) (turn_to v.comes (direction v.goes)) o.passes)
+      ∙ all_meets (λ u. not (less_point (visit_corner u) (visit_corner v))) (visits w)
+      (λ u i. not_meets (less_point (visit_corner u) (visit_corner v)) (λ l. all_at (λ u. IsLess (visit_corner u) (visit_corner v) → ⊥) (visits w) u o.least i (less_told (visit_corner u) (visit_corner v) l))))
       ),
 )
 
@@ -445,8 +445,8 @@ octilinear_told e h =
     ]
 
 pub finish_alone : (e : Edge) (p : PlanePoint) → IsOctilinear e → (e.start.y ≡ e.finish.y → ⊥) → p.y ≡ pos p.scale *ℤ e.finish.y → IsOn e p → p.x ≡ pos p.scale *ℤ e.finish.x
-unfolding turned
-finish_alone e p q n y o = start_alone (turned e) p n y (on_turned p e q o)
+unfolding turned_back
+finish_alone e p q n y o = start_alone (turned_back e) p n y (on_turned p e q o)
 
 not_equal : (a b : ℤ) → not (int_eq a b) ≡ true → a ≡ b → ⊥
 not_equal a b h e = not_told (int_eq a b) h ((Decides-int_eq a b).1 e)

@@ -3,7 +3,7 @@ use Rattle.std.proofs.Common.{◌≡◌, refl, sym, subst, ap, ◌∙◌, ◌⊎
 use Rattle.std.proofs.lemmas.Int.{ints}
 use Rattle.std.proofs.lemmas.List.{append-nil, append_assoc}
 use Rattle.grid_num.specs.declared.Point.{Point}
-use Rattle.covering.specs.Covering.{Edge}
+use Rattle.plane.specs.Covering.{Edge}
 use Rattle.rings.specs.Turning.{direction}
 use Rattle.rings.specs.Walks.{last_of, visits_after, visits, IsWalk, is_bend, bends, IsSameRound, IsListLess, IsContour}
 use Rattle.rings.proofs.Lists.{Has, has_head, has_of, has_round, round_sym, round_trans}

@@ -4,16 +4,16 @@ use Rattle.std.specs.Prelude.{pos, ◌*ℤ◌, ◌≤ℤ◌, ◌<ℤ◌, ◌↔�
 use Rattle.std.specs.List.{AllZip}
 use Rattle.std.proofs.lemmas.Int.{ints}
 use Rattle.plane.specs.Plane.{PlanePoint}
-use Rattle.plane.proofs.Times.{mul_lt}
+use Rattle.grid_num.proofs.Products.{mul_lt}
 use Rattle.grid_num.specs.declared.Point.{Point}
-use Rattle.covering.specs.Covering.{Edge, IsOn, Covers, edges_of_all}
-use Rattle.covering.specs.Edges.{turned, both_ways}
-use Rattle.covering.proofs.On.{at, on_level}
-use Rattle.covering.proofs.Split.{AreAlike, alike_covers, alike_order, slits_law}
-use Rattle.covering.proofs.Chains.{AreAlikeChains, chains_alike, joined_edges}
+use Rattle.plane.specs.Covering.{Edge, IsOn, Covers, edges_of_all}
+use Rattle.plane.specs.Edges.{turned_back, both_ways}
+use Rattle.plane.proofs.On.{at, on_level}
+use Rattle.plane.proofs.Split.{AreAlike, alike_covers, alike_order, slits_law}
+use Rattle.plane.proofs.Chains.{AreAlikeChains, chains_alike, joined_edges}
 use Rattle.strips.specs.declared.Strip.{Strip}
 use Rattle.strips.specs.Strips.{IsInStrip}
-use Rattle.rings.specs.Walks.{IsWalk, joined, IsContour, AreContours}
+use Rattle.rings.specs.Walks.{IsWalk, joined_walks, IsContour, AreContours}
 use Rattle.rings.specs.Loops.{Loop, AreLoopsOf}
 use Rattle.rings.specs.Slits.{IsSlit, cut_by}
 use Rattle.rings.specs.Rings.{holes_of, with_slits, AreRingsOf}
@@ -39,21 +39,21 @@ chains_of es [] (c ∷ cs) g i z = absurd z
 chains_of es (w ∷ ws) [] g i z = absurd z
 chains_of es (w ∷ ws) (c ∷ cs) g i z = (contour_alike es w c g (i w (inl refl)) z.0, chains_of es ws cs g (λ v h. i v (inr h)) z.1)
 
-joined_same : (ws : List (List Edge)) → joined ws ≡ joined_edges ws
+joined_same : (ws : List (List Edge)) → joined_walks ws ≡ joined_edges ws
 joined_same [] = refl
 joined_same (w ∷ ws) = ap (λ es. w ++ es) (joined_same ws)
 
 pub contours_cover : (es : List Edge) (ws : List (List Edge)) (cs : List (List Point)) (p : PlanePoint) → AreGood es → AreContours es ws cs → Covers (edges_of_all cs) p ↔ Covers es p
 contours_cover es ws cs p g a =
     let c = chains_alike cs ws (chains_of es ws cs g (λ w h. all_at (IsWalk es) ws w a.next h) a.draw) in
-    let d = alike_covers (edges_of_all cs) (joined ws) p (subst (AreAlike (edges_of_all cs)) (sym (joined_same ws)) c) in
-    let e = alike_covers (joined ws) es p (alike_order (joined ws) es a.once) in
+    let d = alike_covers (edges_of_all cs) (joined_walks ws) p (subst (AreAlike (edges_of_all cs)) (sym (joined_same ws)) c) in
+    let e = alike_covers (joined_walks ws) es p (alike_order (joined_walks ws) es a.once) in
     (λ i. e.0 (d.0 i), λ i. d.1 (e.1 i))
 
 -- ---- slits lie on the sheet
-slit_points : (s : Edge) (e : Edge) (p : PlanePoint) → s.finish.y ≡ s.start.y → s.finish.x <ℤ s.start.x → (e ≡ s) ⊎ (e ≡ turned s) → IsOn e p
+slit_points : (s : Edge) (e : Edge) (p : PlanePoint) → s.finish.y ≡ s.start.y → s.finish.x <ℤ s.start.x → (e ≡ s) ⊎ (e ≡ turned_back s) → IsOn e p
     → (p.y ≡ pos p.scale *ℤ s.start.y) × ((pos p.scale *ℤ s.finish.x) ≤ℤ p.x) × (p.x ≤ℤ (pos p.scale *ℤ s.start.x))
-unfolding turned
+unfolding turned_back
 slit_points s e p y l (inl k) i =
     let o = subst (λ z. IsOn z p) k i in
     let x = o.across in

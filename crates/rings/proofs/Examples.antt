@@ -1,14 +1,14 @@
 -- The loops and rings of the example boards, by tests.
 use Rattle.std.proofs.Common.{◌≡◌, refl, subst, List, [], ◌∷◌}
 use Rattle.std.specs.Prelude.{pos, true, map}
-use Rattle.covering.specs.Covering.{Edge, edges_of}
-use Rattle.covering.specs.Edges.{turned, both_ways}
+use Rattle.plane.specs.Covering.{Edge, edges_of}
+use Rattle.plane.specs.Edges.{turned_back, both_ways}
 use Rattle.rings.specs.Turning.{direction, turn_to}
 use Rattle.rings.specs.Walks.{visits, visits_after, last_of, is_bend, bends}
 use Rattle.rings.specs.Loops.{AreLoopsOf}
-use Rattle.rings.specs.Slits.{is_inside, cut_one, cut_at, cut_by}
+use Rattle.rings.specs.Slits.{is_inside_edge, cut_one, cut_edges, cut_by}
 use Rattle.rings.specs.Rings.{holes_of, with_slits, AreRingsOf}
-use Rattle.rings.specs.Examples.{at, outer, via_edges, via_loops, via_ring, cut_corners, via_corners, square_edges, first_square, second_square, pair_edges, pair_loops, pair_ring, frame_corners, left_hole, right_hole, bay_edges, bay_corners, ExamplesLaw}
+use Rattle.rings.specs.Examples.{corner_at, outer, via_edges, via_loops, via_ring, cut_corners, via_corners, square_edges, first_square, second_square, pair_edges, pair_loops, pair_ring, frame_corners, left_hole, right_hole, bay_edges, bay_corners, ExamplesLaw}
 use Rattle.rings.proofs.Unique.{same_edge}
 use Rattle.rings.proofs.Checks.{if_then, same_point, has_edge, later, is_next, is_some, is_walk, less_point, less_list, no_less, is_contour, without, is_permuted, is_rising, is_round, is_open_left, some_visit, is_hole, loop_of, in_span, on_edge, some_on, is_aside, is_missed, is_octilinear, is_slit, are_slits, loops_told, rings_told}
 
@@ -17,7 +17,7 @@ via_walks : List (List Edge)
 via_walks = edges_of cut_corners ∷ edges_of via_corners ∷ []
 
 via_slits : List Edge
-via_slits = record { start = at (pos 4792890) (pos 4500000); finish = at (pos 0) (pos 4500000) } ∷ []
+via_slits = record { start = corner_at (pos 4792890) (pos 4500000); finish = corner_at (pos 0) (pos 4500000) } ∷ []
 
 via_round : is_round via_edges via_walks ≡ true
 unfolding via_walks direction turn_to visits visits_after last_of is_bend bends same_edge if_then same_point has_edge later is_next is_some is_walk less_point less_list no_less is_contour without is_permuted is_rising is_round
@@ -28,14 +28,14 @@ unfolding via_walks direction turn_to visits visits_after last_of is_bend bends 
 via_are = refl
 
 via_cut : are_slits via_edges (holes_of (map loop_of via_walks)) via_slits ≡ true
-unfolding via_walks via_slits direction turn_to visits visits_after last_of is_bend bends same_edge if_then same_point has_edge later is_next is_some is_walk less_point less_list no_less is_contour without is_permuted is_rising is_round is_open_left some_visit is_hole loop_of holes_of with_slits cut_by cut_at cut_one is_inside turned both_ways in_span on_edge some_on is_aside is_missed is_octilinear is_slit are_slits
+unfolding via_walks via_slits direction turn_to visits visits_after last_of is_bend bends same_edge if_then same_point has_edge later is_next is_some is_walk less_point less_list no_less is_contour without is_permuted is_rising is_round is_open_left some_visit is_hole loop_of holes_of with_slits cut_by cut_edges cut_one is_inside_edge turned_back both_ways in_span on_edge some_on is_aside is_missed is_octilinear is_slit are_slits
 via_cut = refl
 
 via_ring_walks : List (List Edge)
-via_ring_walks = edges_of (at (pos 73222) (pos 0) ∷ at (pos 5000000) (pos 0) ∷ at (pos 9926778) (pos 0) ∷ at (pos 10000000) (pos 73222) ∷ at (pos 10000000) (pos 9926778) ∷ at (pos 9926778) (pos 10000000) ∷ at (pos 73222) (pos 10000000) ∷ at (pos 0) (pos 9926778) ∷ at (pos 0) (pos 4500000) ∷ at (pos 4792890) (pos 4500000) ∷ at (pos 4500000) (pos 4792890) ∷ at (pos 4500000) (pos 5207110) ∷ at (pos 4792890) (pos 5500000) ∷ at (pos 5207110) (pos 5500000) ∷ at (pos 5500000) (pos 5207110) ∷ at (pos 5500000) (pos 4792890) ∷ at (pos 5207110) (pos 4500000) ∷ at (pos 4792890) (pos 4500000) ∷ at (pos 0) (pos 4500000) ∷ at (pos 0) (pos 73222) ∷ []) ∷ []
+via_ring_walks = edges_of (corner_at (pos 73222) (pos 0) ∷ corner_at (pos 5000000) (pos 0) ∷ corner_at (pos 9926778) (pos 0) ∷ corner_at (pos 10000000) (pos 73222) ∷ corner_at (pos 10000000) (pos 9926778) ∷ corner_at (pos 9926778) (pos 10000000) ∷ corner_at (pos 73222) (pos 10000000) ∷ corner_at (pos 0) (pos 9926778) ∷ corner_at (pos 0) (pos 4500000) ∷ corner_at (pos 4792890) (pos 4500000) ∷ corner_at (pos 4500000) (pos 4792890) ∷ corner_at (pos 4500000) (pos 5207110) ∷ corner_at (pos 4792890) (pos 5500000) ∷ corner_at (pos 5207110) (pos 5500000) ∷ corner_at (pos 5500000) (pos 5207110) ∷ corner_at (pos 5500000) (pos 4792890) ∷ corner_at (pos 5207110) (pos 4500000) ∷ corner_at (pos 4792890) (pos 4500000) ∷ corner_at (pos 0) (pos 4500000) ∷ corner_at (pos 0) (pos 73222) ∷ []) ∷ []
 
 via_rings_round : is_round (with_slits via_edges via_slits) via_ring_walks ≡ true
-unfolding via_walks via_slits via_ring_walks direction turn_to visits visits_after last_of is_bend bends same_edge if_then same_point has_edge later is_next is_some is_walk less_point less_list no_less is_contour without is_permuted is_rising is_round is_open_left some_visit is_hole loop_of holes_of with_slits cut_by cut_at cut_one is_inside turned both_ways in_span on_edge some_on is_aside is_missed is_octilinear is_slit are_slits
+unfolding via_walks via_slits via_ring_walks direction turn_to visits visits_after last_of is_bend bends same_edge if_then same_point has_edge later is_next is_some is_walk less_point less_list no_less is_contour without is_permuted is_rising is_round is_open_left some_visit is_hole loop_of holes_of with_slits cut_by cut_edges cut_one is_inside_edge turned_back both_ways in_span on_edge some_on is_aside is_missed is_octilinear is_slit are_slits
 via_rings_round = refl
 
 via_rings_are : map bends via_ring_walks ≡ via_ring ∷ []
@@ -58,14 +58,14 @@ unfolding square_walks direction turn_to visits visits_after last_of is_bend ben
 square_are = refl
 
 square_cut : are_slits square_edges (holes_of (map loop_of square_walks)) square_slits ≡ true
-unfolding square_walks square_slits direction turn_to visits visits_after last_of is_bend bends same_edge if_then same_point has_edge later is_next is_some is_walk less_point less_list no_less is_contour without is_permuted is_rising is_round is_open_left some_visit is_hole loop_of holes_of with_slits cut_by cut_at cut_one is_inside turned both_ways in_span on_edge some_on is_aside is_missed is_octilinear is_slit are_slits
+unfolding square_walks square_slits direction turn_to visits visits_after last_of is_bend bends same_edge if_then same_point has_edge later is_next is_some is_walk less_point less_list no_less is_contour without is_permuted is_rising is_round is_open_left some_visit is_hole loop_of holes_of with_slits cut_by cut_edges cut_one is_inside_edge turned_back both_ways in_span on_edge some_on is_aside is_missed is_octilinear is_slit are_slits
 square_cut = refl
 
 square_ring_walks : List (List Edge)
 square_ring_walks = edges_of first_square ∷ edges_of second_square ∷ []
 
 square_rings_round : is_round (with_slits square_edges square_slits) square_ring_walks ≡ true
-unfolding square_walks square_slits square_ring_walks direction turn_to visits visits_after last_of is_bend bends same_edge if_then same_point has_edge later is_next is_some is_walk less_point less_list no_less is_contour without is_permuted is_rising is_round is_open_left some_visit is_hole loop_of holes_of with_slits cut_by cut_at cut_one is_inside turned both_ways in_span on_edge some_on is_aside is_missed is_octilinear is_slit are_slits
+unfolding square_walks square_slits square_ring_walks direction turn_to visits visits_after last_of is_bend bends same_edge if_then same_point has_edge later is_next is_some is_walk less_point less_list no_less is_contour without is_permuted is_rising is_round is_open_left some_visit is_hole loop_of holes_of with_slits cut_by cut_edges cut_one is_inside_edge turned_back both_ways in_span on_edge some_on is_aside is_missed is_octilinear is_slit are_slits
 square_rings_round = refl
 
 square_rings_are : map bends square_ring_walks ≡ first_square ∷ second_square ∷ []
@@ -77,7 +77,7 @@ pair_walks : List (List Edge)
 pair_walks = edges_of frame_corners ∷ edges_of left_hole ∷ edges_of right_hole ∷ []
 
 pair_slits : List Edge
-pair_slits = record { start = at (pos 2) (pos 2); finish = at (pos 0) (pos 2) } ∷ record { start = at (pos 6) (pos 2); finish = at (pos 4) (pos 2) } ∷ []
+pair_slits = record { start = corner_at (pos 2) (pos 2); finish = corner_at (pos 0) (pos 2) } ∷ record { start = corner_at (pos 6) (pos 2); finish = corner_at (pos 4) (pos 2) } ∷ []
 
 pair_round : is_round pair_edges pair_walks ≡ true
 unfolding pair_walks direction turn_to visits visits_after last_of is_bend bends same_edge if_then same_point has_edge later is_next is_some is_walk less_point less_list no_less is_contour without is_permuted is_rising is_round
@@ -88,14 +88,14 @@ unfolding pair_walks direction turn_to visits visits_after last_of is_bend bends
 pair_are = refl
 
 pair_cut : are_slits pair_edges (holes_of (map loop_of pair_walks)) pair_slits ≡ true
-unfolding pair_walks pair_slits direction turn_to visits visits_after last_of is_bend bends same_edge if_then same_point has_edge later is_next is_some is_walk less_point less_list no_less is_contour without is_permuted is_rising is_round is_open_left some_visit is_hole loop_of holes_of with_slits cut_by cut_at cut_one is_inside turned both_ways in_span on_edge some_on is_aside is_missed is_octilinear is_slit are_slits
+unfolding pair_walks pair_slits direction turn_to visits visits_after last_of is_bend bends same_edge if_then same_point has_edge later is_next is_some is_walk less_point less_list no_less is_contour without is_permuted is_rising is_round is_open_left some_visit is_hole loop_of holes_of with_slits cut_by cut_edges cut_one is_inside_edge turned_back both_ways in_span on_edge some_on is_aside is_missed is_octilinear is_slit are_slits
 pair_cut = refl
 
 pair_ring_walks : List (List Edge)
-pair_ring_walks = edges_of (at (pos 0) (pos 0) ∷ at (pos 10) (pos 0) ∷ at (pos 10) (pos 6) ∷ at (pos 0) (pos 6) ∷ at (pos 0) (pos 2) ∷ at (pos 2) (pos 2) ∷ at (pos 2) (pos 4) ∷ at (pos 4) (pos 4) ∷ at (pos 4) (pos 2) ∷ at (pos 6) (pos 2) ∷ at (pos 6) (pos 4) ∷ at (pos 8) (pos 4) ∷ at (pos 8) (pos 2) ∷ at (pos 6) (pos 2) ∷ at (pos 4) (pos 2) ∷ at (pos 2) (pos 2) ∷ at (pos 0) (pos 2) ∷ []) ∷ []
+pair_ring_walks = edges_of (corner_at (pos 0) (pos 0) ∷ corner_at (pos 10) (pos 0) ∷ corner_at (pos 10) (pos 6) ∷ corner_at (pos 0) (pos 6) ∷ corner_at (pos 0) (pos 2) ∷ corner_at (pos 2) (pos 2) ∷ corner_at (pos 2) (pos 4) ∷ corner_at (pos 4) (pos 4) ∷ corner_at (pos 4) (pos 2) ∷ corner_at (pos 6) (pos 2) ∷ corner_at (pos 6) (pos 4) ∷ corner_at (pos 8) (pos 4) ∷ corner_at (pos 8) (pos 2) ∷ corner_at (pos 6) (pos 2) ∷ corner_at (pos 4) (pos 2) ∷ corner_at (pos 2) (pos 2) ∷ corner_at (pos 0) (pos 2) ∷ []) ∷ []
 
 pair_rings_round : is_round (with_slits pair_edges pair_slits) pair_ring_walks ≡ true
-unfolding pair_walks pair_slits pair_ring_walks direction turn_to visits visits_after last_of is_bend bends same_edge if_then same_point has_edge later is_next is_some is_walk less_point less_list no_less is_contour without is_permuted is_rising is_round is_open_left some_visit is_hole loop_of holes_of with_slits cut_by cut_at cut_one is_inside turned both_ways in_span on_edge some_on is_aside is_missed is_octilinear is_slit are_slits
+unfolding pair_walks pair_slits pair_ring_walks direction turn_to visits visits_after last_of is_bend bends same_edge if_then same_point has_edge later is_next is_some is_walk less_point less_list no_less is_contour without is_permuted is_rising is_round is_open_left some_visit is_hole loop_of holes_of with_slits cut_by cut_edges cut_one is_inside_edge turned_back both_ways in_span on_edge some_on is_aside is_missed is_octilinear is_slit are_slits
 pair_rings_round = refl
 
 pair_rings_are : map bends pair_ring_walks ≡ pair_ring ∷ []
@@ -118,14 +118,14 @@ unfolding bay_walks direction turn_to visits visits_after last_of is_bend bends 
 bay_are = refl
 
 bay_cut : are_slits bay_edges (holes_of (map loop_of bay_walks)) bay_slits ≡ true
-unfolding bay_walks bay_slits direction turn_to visits visits_after last_of is_bend bends same_edge if_then same_point has_edge later is_next is_some is_walk less_point less_list no_less is_contour without is_permuted is_rising is_round is_open_left some_visit is_hole loop_of holes_of with_slits cut_by cut_at cut_one is_inside turned both_ways in_span on_edge some_on is_aside is_missed is_octilinear is_slit are_slits
+unfolding bay_walks bay_slits direction turn_to visits visits_after last_of is_bend bends same_edge if_then same_point has_edge later is_next is_some is_walk less_point less_list no_less is_contour without is_permuted is_rising is_round is_open_left some_visit is_hole loop_of holes_of with_slits cut_by cut_edges cut_one is_inside_edge turned_back both_ways in_span on_edge some_on is_aside is_missed is_octilinear is_slit are_slits
 bay_cut = refl
 
 bay_ring_walks : List (List Edge)
 bay_ring_walks = edges_of bay_corners ∷ []
 
 bay_rings_round : is_round (with_slits bay_edges bay_slits) bay_ring_walks ≡ true
-unfolding bay_walks bay_slits bay_ring_walks direction turn_to visits visits_after last_of is_bend bends same_edge if_then same_point has_edge later is_next is_some is_walk less_point less_list no_less is_contour without is_permuted is_rising is_round is_open_left some_visit is_hole loop_of holes_of with_slits cut_by cut_at cut_one is_inside turned both_ways in_span on_edge some_on is_aside is_missed is_octilinear is_slit are_slits
+unfolding bay_walks bay_slits bay_ring_walks direction turn_to visits visits_after last_of is_bend bends same_edge if_then same_point has_edge later is_next is_some is_walk less_point less_list no_less is_contour without is_permuted is_rising is_round is_open_left some_visit is_hole loop_of holes_of with_slits cut_by cut_edges cut_one is_inside_edge turned_back both_ways in_span on_edge some_on is_aside is_missed is_octilinear is_slit are_slits
 bay_rings_round = refl
 
 bay_rings_are : map bends bay_ring_walks ≡ bay_corners ∷ []

@@ -4,9 +4,9 @@ use Rattle.std.specs.Prelude.{map, Contains}
 use Rattle.std.specs.List.{filter}
 use Rattle.std.proofs.lemmas.Int.{ints}
 use Rattle.grid_num.specs.declared.Point.{Point}
-use Rattle.covering.specs.Covering.{Edge}
-use Rattle.rings.specs.Turning.{direction, turn_to, IsNext}
-use Rattle.rings.specs.Walks.{Visit, visits, visits_after, last_of, IsWalk, corner, is_bend, bends, IsLess, IsListLess, IsContour}
+use Rattle.plane.specs.Covering.{Edge}
+use Rattle.rings.specs.Turning.{direction, turn_to, IsNextEdge}
+use Rattle.rings.specs.Walks.{Visit, visits, visits_after, last_of, IsWalk, visit_corner, is_bend, bends, IsLess, IsListLess, IsContour}
 use Rattle.rings.specs.Loops.{IsOpenLeft, IsHole}
 use Rattle.rings.proofs.Lists.{Has, has_of, has_head, has_split, has_round, all_at, round_sym}
 use Rattle.rings.proofs.Order.{less_cases}
@@ -83,8 +83,8 @@ ends_less (suc (suc (suc (suc (suc (suc zero)))))) h e f g k = inl (inl g.on)
 ends_less (suc (suc (suc (suc (suc (suc (suc zero))))))) h e f g k = inl (inl g.on)
 ends_less (suc (suc (suc (suc (suc (suc (suc (suc d)))))))) h e f g k = absurd (omega (arith, h))
 
-pub visit_next : (es w : List Edge) (u : Visit) → IsWalk es w → Has (visits w) u → IsNext es u.comes u.goes
-visit_next es w u i h = all_at (λ v. IsNext es v.comes v.goes) (visits w) u i.next h
+pub visit_next : (es w : List Edge) (u : Visit) → IsWalk es w → Has (visits w) u → IsNextEdge es u.comes u.goes
+visit_next es w u i h = all_at (λ v. IsNextEdge es v.comes v.goes) (visits w) u i.next h
 
 bool_cases : (b : Bool) → (b ≡ true) ⊎ (b ≡ false)
 bool_cases true = inl refl
@@ -104,10 +104,10 @@ least_bend es w u g i o = elim (bool_cases (is_bend u)) [
       let c = g u.comes (has_of es u.comes (subst (Contains es) before.2 (visit_next es w before.0 i before.1).one)) in
       let k = g u.goes (has_of es u.goes n.one) in
       elim (ends_less (direction u.comes) (direction_low u.comes) u.comes u.goes c (subst (λ e. GoesOn e u.goes) (sym d) k)) [
-        | inl l ↦ all_at (λ t. IsLess (corner t) (corner u) → ⊥) (visits w) before.0 o.least before.1
-            (subst (λ q. IsLess q (corner u)) (sym (ap (λ e. e.start) before.2)) (subst (IsLess u.comes.start) (sym n.joins) l))
-        | inr l ↦ all_at (λ t. IsLess (corner t) (corner u) → ⊥) (visits w) later.0 o.least later.1
-            (subst (λ q. IsLess q (corner u)) (sym (m.joins ∙ ap (λ e. e.finish) later.2)) l)
+        | inl l ↦ all_at (λ t. IsLess (visit_corner t) (visit_corner u) → ⊥) (visits w) before.0 o.least before.1
+            (subst (λ q. IsLess q (visit_corner u)) (sym (ap (λ e. e.start) before.2)) (subst (IsLess u.comes.start) (sym n.joins) l))
+        | inr l ↦ all_at (λ t. IsLess (visit_corner t) (visit_corner u) → ⊥) (visits w) later.0 o.least later.1
+            (subst (λ q. IsLess q (visit_corner u)) (sym (m.joins ∙ ap (λ e. e.finish) later.2)) l)
       ])
 ]
 
@@ -159,15 +159,15 @@ map_has f (x ∷ xs) y (inl e) = (x, inl refl, e)
 map_has f (x ∷ xs) y (inr h) = let r = map_has f xs y h in (r.0, inr r.1, r.2)
 
 -- a corner of the contour is one of the walk
-pub contour_visit : (w : List Edge) (cs : List Point) (a : Point) → IsContour w cs → Has cs a → (u : Visit) × Has (visits w) u × (corner u ≡ a)
+pub contour_visit : (w : List Edge) (cs : List Point) (a : Point) → IsContour w cs → Has cs a → (u : Visit) × Has (visits w) u × (visit_corner u ≡ a)
 unfolding bends
 contour_visit w cs a c h =
-    let r = map_has corner (filter is_bend (visits w)) a (has_round cs (bends w) (round_sym (bends w) cs c.round) a h) in
+    let r = map_has visit_corner (filter is_bend (visits w)) a (has_round cs (bends w) (round_sym (bends w) cs c.round) a h) in
     (r.0, (filtered_has is_bend (visits w) r.0 r.1).0, r.2)
 
-bend_contour : (w : List Edge) (cs : List Point) (u : Visit) → IsContour w cs → Has (visits w) u → is_bend u ≡ true → Has cs (corner u)
+bend_contour : (w : List Edge) (cs : List Point) (u : Visit) → IsContour w cs → Has (visits w) u → is_bend u ≡ true → Has cs (visit_corner u)
 unfolding bends
-bend_contour w cs u c h b = has_round (bends w) cs c.round (corner u) (has_map corner (filter is_bend (visits w)) u (has_filtered is_bend (visits w) u h b))
+bend_contour w cs u c h b = has_round (bends w) cs c.round (visit_corner u) (has_map visit_corner (filter is_bend (visits w)) u (has_filtered is_bend (visits w) u h b))
 
 least_first : (w : List Edge) (h : Point) (cs : List Point) (a : Point) → IsContour w (h ∷ cs) → Has (h ∷ cs) a → IsLess a h → ⊥
 unfolding IsListLess
@@ -178,10 +178,10 @@ least_first w h cs a c i l =
 -- the visit of a hole to its first corner
 pub record IsHead (es w : List Edge) (h : Point) (u : Visit) : Type 0 where
   pub one : Has (visits w) u
-  pub here : corner u ≡ h
-  pub next : IsNext es u.comes u.goes
+  pub here : visit_corner u ≡ h
+  pub next : IsNextEdge es u.comes u.goes
   pub passes : turn_to u.comes 4 < turn_to u.comes (direction u.goes)
-  pub least : (t : Visit) → Has (visits w) t → IsLess (corner t) h → ⊥
+  pub least : (t : Visit) → Has (visits w) t → IsLess (visit_corner t) h → ⊥
 
 pub hole_head : (es w : List Edge) (h : Point) (cs : List Point) → AreGood es → IsWalk es w → IsContour w (h ∷ cs) → IsHole w → (u : Visit) × IsHead es w h u
 unfolding IsHole
@@ -191,11 +191,11 @@ hole_head es w h cs g i c o =
     let one = has_of (visits w) u k.one in
     let b = bend_contour w (h ∷ cs) u c one (least_bend es w u g i k) in
     let v = contour_visit w (h ∷ cs) h c (has_head h cs) in
-    let e : corner u ≡ h = elim (less_cases (corner u) h) [
-      | inl l ↦ absurd (least_first w h cs (corner u) c b l)
+    let e : visit_corner u ≡ h = elim (less_cases (visit_corner u) h) [
+      | inl l ↦ absurd (least_first w h cs (visit_corner u) c b l)
       | inr s ↦ elim s [
         | inl e ↦ e
-        | inr l ↦ absurd (all_at (λ t. IsLess (corner t) (corner u) → ⊥) (visits w) v.0 k.least v.1 (subst (λ q. IsLess q (corner u)) (sym v.2) l))
+        | inr l ↦ absurd (all_at (λ t. IsLess (visit_corner t) (visit_corner u) → ⊥) (visits w) v.0 k.least v.1 (subst (λ q. IsLess q (visit_corner u)) (sym v.2) l))
       ]
     ] in (
       u,
@@ -204,7 +204,7 @@ hole_head es w h cs g i c o =
         here = e;
         next = visit_next es w u i one;
         passes = k.passes;
-        least = λ t j l. all_at (λ t. IsLess (corner t) (corner u) → ⊥) (visits w) t k.least j (subst (IsLess (corner t)) (sym e) l);
+        least = λ t j l. all_at (λ t. IsLess (visit_corner t) (visit_corner u) → ⊥) (visits w) t k.least j (subst (IsLess (visit_corner t)) (sym e) l);
       },
     )
 

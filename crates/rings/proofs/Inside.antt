@@ -3,17 +3,17 @@ use Rattle.std.proofs.Common.{◌≡◌, refl, sym, subst, ap, ◌∙◌, ℕ, �
 use Rattle.std.specs.Prelude.{ℤ, pos, ◌+ℤ◌, ◌*ℤ◌, ◌<ℤ◌, ◌≤ℤ◌, Any}
 use Rattle.std.proofs.lemmas.Int.{ints, by_lt_z}
 use Rattle.plane.specs.Plane.{PlanePoint, grid_point}
-use Rattle.plane.proofs.Times.{mul_le}
+use Rattle.grid_num.proofs.Products.{mul_le}
 use Rattle.grid_num.specs.declared.Point.{Point}
-use Rattle.covering.specs.Covering.{Edge, IsOn}
-use Rattle.covering.proofs.On.{at}
-use Rattle.covering.proofs.Laws.{start_on}
+use Rattle.plane.specs.Covering.{Edge, IsOn}
+use Rattle.plane.proofs.On.{at}
+use Rattle.plane.proofs.CoverLaws.{start_on}
 use Rattle.strips.specs.declared.Strip.{Strip}
 use Rattle.strips.specs.Strips.{IsInStrip}
 use Rattle.rings.specs.Turning.{direction, turn_to}
 use Rattle.rings.specs.Walks.{Visit, IsWalk, IsLess}
 use Rattle.rings.specs.Slits.{IsSlit}
-use Rattle.rings.specs.Boundary.{left_edge, right_edge, HasAbove, IsCorner, IsStrictlyFrom, AreNeighbours, IsLevelPart, AreBoundary}
+use Rattle.rings.specs.Boundary.{left_edge, right_edge, HasCopperAbove, IsCorner, IsStrictlyFrom, AreNeighbours, IsLevelPart, AreBoundary}
 use Rattle.rings.proofs.Lists.{Has, has_of, of_has, found}
 use Rattle.rings.proofs.Order.{point_same}
 use Rattle.rings.proofs.Heads.{IsHead, visit_goes, visit_next, comes_has}
@@ -157,7 +157,7 @@ from_side ss es w h u s o b k one e n =
     ]
 
 from_level : (ss : List Strip) (es w : List Edge) (h : Point) (u : Visit) → AreOrdered ss → AreBoundary ss es → IsHead es w h u → AreNeighbours ss u.comes.finish u.comes.start
-    → ((p : PlanePoint) → IsStrictlyFrom u.comes.finish u.comes.start p → HasAbove ss p) → ((s : Strip) → IsCopperLeft ss h s → ⊥) → ⊥
+    → ((p : PlanePoint) → IsStrictlyFrom u.comes.finish u.comes.start p → HasCopperAbove ss p) → ((s : Strip) → IsCopperLeft ss h s → ⊥) → ⊥
 unfolding beside
 from_level ss es w h u o b k m a n =
     let f = u.comes.finish in

@@ -2,13 +2,13 @@
 use Rattle.std.proofs.Common.{length, ◌≡◌, sym, subst, arith, List, [], ◌∷◌}
 use Rattle.std.specs.Prelude.{AllPairs}
 use Rattle.std.proofs.lemmas.List.Kept.{AllPairs-cons}
-use Rattle.covering.specs.Covering.{Edge}
+use Rattle.plane.specs.Covering.{Edge}
 use Rattle.strips.specs.declared.Strip.{Strip}
-use Rattle.strips.specs.Strips.{IsTrapezoid, IsBefore}
+use Rattle.strips.specs.Strips.{IsTrapezoid, IsStripBefore}
 use Rattle.rings.specs.Boundary.{AreBoundary}
 use Rattle.rings.specs.Laws.{AreOrderly, OneLoopsLaw, OneRingsLaw, LoopsCoverLaw, RingsCoverLaw, UnionCoverLaw, SomeLoopsLaw, SomeRingsLaw, HasOneNextEach, NextLaw, SlitsNextLaw, UncutLaw, SomeSlitsLaw, WalksLaw, SlitsWalksLaw, LoopsByLaw, SlitsByLaw, DrawnRingsLaw, RingsByLaw}
-use Rattle.rings.specs.Walks.{IsWalk, joined}
-use Rattle.rings.specs.Tracing.{walks_of}
+use Rattle.rings.specs.Walks.{IsWalk, joined_walks}
+use Rattle.rings.specs.Inner.Tracing.{walks_of}
 use Rattle.rings.proofs.Orbits.{IsClosed}
 use Rattle.rings.proofs.Outcome.{loops_right, slits_right, rings_drawn, rings_right}
 use Rattle.rings.proofs.Permuted.{tidy_permuted, alternate_permuted}
@@ -30,7 +30,7 @@ use Rattle.rings.proofs.Sides.{AreOrdered}
 use Rattle.rings.proofs.Boundary.{boundary_good, boundary_parted, boundary_once, boundary_same}
 
 ordered : (ss : List Strip) → AreOrderly ss → AreOrdered ss
-ordered ss a = record { shape = λ s h. all_at (λ s. IsTrapezoid s) ss s a.shapes h; order = rising_of IsBefore ss a.order }
+ordered ss a = record { shape = λ s h. all_at (λ s. IsTrapezoid s) ss s a.shapes h; order = rising_of IsStripBefore ss a.order }
 
 tidy : (ss : List Strip) (es : List Edge) → AreOrdered ss → AreBoundary ss es → AreTidy es
 tidy ss es o b = record { good = boundary_good ss es o b; parted = boundary_parted ss es o b; once = boundary_once ss es o b }
@@ -111,7 +111,7 @@ pub some_slits_law : SomeSlitsLaw
 some_slits_law ss es loops s b a = boundary_slits ss es loops (ordered ss s) b a
 
 -- ---- the plain program
-walks_right : (es : List Edge) → AreSound es → All (IsWalk es) (walks_of (length es) es es) × IsPermutation (joined (walks_of (length es) es es)) es
+walks_right : (es : List Edge) → AreSound es → All (IsWalk es) (walks_of (length es) es es) × IsPermutation (joined_walks (walks_of (length es) es es)) es
 unfolding Alternate IsClosed
 walks_right es s =
     let t = s.tidy in

@@ -3,15 +3,15 @@ use Rattle.std.proofs.Common.{◌≡◌, refl, sym, subst, ap, ◌∙◌, ◌⊎
 use Rattle.std.specs.Prelude.{ℤ, pos, ◌*ℤ◌, ◌<ℤ◌, ◌≤ℤ◌, ◌↔◌, Any}
 use Rattle.std.proofs.lemmas.Int.{ints, by_lt_z}
 use Rattle.plane.specs.Plane.{PlanePoint}
-use Rattle.plane.proofs.Times.{mul_le, mul_lt, mul_lt_back}
+use Rattle.grid_num.proofs.Products.{mul_le, mul_lt, mul_lt_back}
 use Rattle.grid_num.specs.declared.Point.{Point}
-use Rattle.covering.specs.Covering.{Edge, IsOn, Covers}
-use Rattle.covering.proofs.Lists.{any_left, any_right}
-use Rattle.covering.proofs.On.{at, same_pos, on_level, level_on}
-use Rattle.covering.proofs.Laws.{start_on, finish_on}
+use Rattle.plane.specs.Covering.{Edge, IsOn, Covers}
+use Rattle.plane.proofs.Lists.{any_left, any_right}
+use Rattle.plane.proofs.On.{at, same_pos, on_level, level_on}
+use Rattle.plane.proofs.CoverLaws.{start_on, finish_on}
 use Rattle.strips.specs.declared.Strip.{Strip}
-use Rattle.strips.specs.Strips.{IsInStrip, IsBefore}
-use Rattle.rings.specs.Boundary.{side_edges, IsCorner, HasAbove, HasBelow, IsStrictlyFrom, AreNeighbours, IsLevelPart, AreLevelParts, AreBoundary}
+use Rattle.strips.specs.Strips.{IsInStrip, IsStripBefore}
+use Rattle.rings.specs.Boundary.{side_edges, IsCorner, HasCopperAbove, HasCopperBelow, IsStrictlyFrom, AreNeighbours, IsLevelPart, AreLevelParts, AreBoundary}
 use Rattle.rings.proofs.Lists.{Has, has_of, all_at, all_of, Rising, found}
 use Rattle.rings.proofs.Slits.{has_any, any_has}
 use Rattle.rings.proofs.Sides.{AreOrdered}
@@ -61,7 +61,7 @@ over_same ss a b p q s n i j u =
     }
 
 -- between neighbours with copper on just one side there is a level part
-pub part_below : (ss : List Strip) (a b : Point) (p : PlanePoint) → AreOrdered ss → AreNeighbours ss a b → IsStrictlyFrom a b p → HasBelow ss p → (HasAbove ss p → ⊥)
+pub part_below : (ss : List Strip) (a b : Point) (p : PlanePoint) → AreOrdered ss → AreNeighbours ss a b → IsStrictlyFrom a b p → HasCopperBelow ss p → (HasCopperAbove ss p → ⊥)
     → IsLevelPart ss (record { start = a; finish = b })
 unfolding IsLevelPart
 part_below ss a b p o n i u f = inl (
@@ -72,7 +72,7 @@ part_below ss a b p o n i u f = inl (
   ),
 )
 
-pub part_above : (ss : List Strip) (a b : Point) (p : PlanePoint) → AreOrdered ss → AreNeighbours ss a b → IsStrictlyFrom a b p → HasAbove ss p → (HasBelow ss p → ⊥)
+pub part_above : (ss : List Strip) (a b : Point) (p : PlanePoint) → AreOrdered ss → AreNeighbours ss a b → IsStrictlyFrom a b p → HasCopperAbove ss p → (HasCopperBelow ss p → ⊥)
     → IsLevelPart ss (record { start = b; finish = a })
 unfolding IsLevelPart
 part_above ss a b p o n i u f = inr (
@@ -110,12 +110,12 @@ corner_on ss a p i x y =
       | inr k ↦ finish_on p r.0 (x ∙ at p.scale a.x r.0.finish.x (ap (λ z. z.x) k)) (y ∙ at p.scale a.y r.0.finish.y (ap (λ z. z.y) k))
     ])
 
-above_in : (ss : List Strip) (p : PlanePoint) → HasAbove ss p → Any (λ s. IsInStrip s p) ss
-unfolding HasAbove
+above_in : (ss : List Strip) (p : PlanePoint) → HasCopperAbove ss p → Any (λ s. IsInStrip s p) ss
+unfolding HasCopperAbove
 above_in ss p h = let r = any_has (λ s. IsInStrip s p × (p.y ≡ pos p.scale *ℤ s.bottom)) ss h in has_any (λ s. IsInStrip s p) ss r.0 r.1 (r.2).0
 
-below_in : (ss : List Strip) (p : PlanePoint) → HasBelow ss p → Any (λ s. IsInStrip s p) ss
-unfolding HasBelow
+below_in : (ss : List Strip) (p : PlanePoint) → HasCopperBelow ss p → Any (λ s. IsInStrip s p) ss
+unfolding HasCopperBelow
 below_in ss p h = let r = any_has (λ s. IsInStrip s p × (p.y ≡ pos p.scale *ℤ s.top)) ss h in has_any (λ s. IsInStrip s p) ss r.0 r.1 (r.2).0
 
 -- ---- the level parts lie on the strips
@@ -178,13 +178,13 @@ more : (ss : List Strip) (r : ℤ) (p : PlanePoint) (c : Point) → NoCorner ss 
 unfolding NoCorner
 more ss r p c n i y l = by_lt_z {P = p.x <ℤ (pos p.scale *ℤ c.x)} p.x (pos p.scale *ℤ c.x) (λ k. k) (λ k. absurd (n c i y (omega (arith, ints, k, l))))
 
-level_all : (ss : List Strip) (hs : List Edge) (p : PlanePoint) → AreOrdered ss → AreLevelParts ss hs → HasAbove ss p → Any (λ e. IsOn e p) (side_edges ss ++ hs) ⊎ HasBelow ss p
+level_all : (ss : List Strip) (hs : List Edge) (p : PlanePoint) → AreOrdered ss → AreLevelParts ss hs → HasCopperAbove ss p → Any (λ e. IsOn e p) (side_edges ss ++ hs) ⊎ HasCopperBelow ss p
 level_all ss hs p o l h = elim (under_cases ss p) [
   | inl u ↦ inr (of_under ss p u.0 o u.1)
   | inr n ↦ inl (by (over_of ss p o h) (λ b. (let u = under_of ss p o b in n u.0 u.1)))
 ]
   where
-    on_part : (s : Strip) → (HasBelow ss p → ⊥) → (a b : Point) → p.y ≡ pos p.scale *ℤ s.bottom → IsGap ss s.bottom p a b → Any (λ e. IsOn e p) (side_edges ss ++ hs)
+    on_part : (s : Strip) → (HasCopperBelow ss p → ⊥) → (a b : Point) → p.y ≡ pos p.scale *ℤ s.bottom → IsGap ss s.bottom p a b → Any (λ e. IsOn e p) (side_edges ss ++ hs)
     on_part s f a b y g =
         let e : Edge = record { start = b; finish = a } in
         let r = y ∙ at p.scale s.bottom a.y (sym g.row) in
@@ -195,7 +195,7 @@ level_all ss hs p o l h = elim (under_cases ss p) [
         (has_any (λ e. IsOn e p) hs e (has_of hs e (l.whole e k))
         (level_on e p (sym (g.are).level) (r ∙ at p.scale a.y b.y (g.are).level) (inr (omega (arith, ints, u), omega (arith, ints, v)))))
 
-    by : (s : Strip) × IsOver ss p s → (HasBelow ss p → ⊥) → Any (λ e. IsOn e p) (side_edges ss ++ hs)
+    by : (s : Strip) × IsOver ss p s → (HasCopperBelow ss p → ⊥) → Any (λ e. IsOn e p) (side_edges ss ++ hs)
     by (s, u) f = elim (at_corner ss s.bottom p) [
       | inl c ↦ any_left (λ e. IsOn e p) (side_edges ss) hs (corner_on ss c.0 p c.1 c.3 (u.row ∙ at p.scale s.bottom c.0.y (sym c.2)))
       | inr n ↦ (
@@ -208,7 +208,7 @@ level_all ss hs p o l h = elim (under_cases ss p) [
     ]
 
 pub level_cover : (ss : List Strip) (hs : List Edge) → AreOrdered ss → AreLevelParts ss hs → IsLevelCover ss hs
-unfolding IsLevelPart HasAbove HasBelow
+unfolding IsLevelPart HasCopperAbove HasCopperBelow
 level_cover ss hs o l = record {
   level = all_of (λ e. e.start.y ≡ e.finish.y) hs (λ e h. flat e (all_at (IsLevelPart ss) hs e l.each h));
   within = λ p i. (let r = any_has (λ e. IsOn e p) hs i in level_in ss r.0 p o (all_at (IsLevelPart ss) hs r.0 l.each r.1) r.2);
@@ -225,12 +225,12 @@ unfolding AreSound Has
 sound_of [] o = tt
 sound_of (s ∷ ss) o = (((o.shape s (inl refl)).down, run_of s (o.shape s (inl refl))), sound_of ss (ordered_tail s ss o))
 
-before_of : (s : Strip) (ss : List Strip) → ((t : Strip) → Has ss t → IsBefore s t) → IsBeforeAll s ss
+before_of : (s : Strip) (ss : List Strip) → ((t : Strip) → Has ss t → IsStripBefore s t) → IsBeforeAll s ss
 unfolding IsBeforeAll Has
 before_of s [] f = tt
 before_of s (t ∷ ss) f = (f t (inl refl), before_of s ss (λ u h. f u (inr h)))
 
-order_of : (ss : List Strip) → Rising IsBefore ss → AreInOrder ss
+order_of : (ss : List Strip) → Rising IsStripBefore ss → AreInOrder ss
 unfolding AreInOrder Rising
 order_of [] r = tt
 order_of (s ∷ ss) r = (before_of s ss r.0, order_of ss r.1)

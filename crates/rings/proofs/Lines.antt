@@ -3,9 +3,9 @@ use Rattle.std.proofs.Common.{◌≡◌, refl, sym, ◌∙◌, ℕ, zero, suc, �
 use Rattle.std.specs.Prelude.{ℤ, neg_ℤ, ◌+ℤ◌, ◌-ℤ◌, ◌<ℤ◌, ◌≤ℤ◌, int_lt, nat_eq, nat_lt, ◌%◌, if◌then◌else◌}
 use Rattle.std.proofs.lemmas.Int.{ints, by_lt_z}
 use Rattle.grid_num.specs.declared.Point.{Point}
-use Rattle.covering.specs.Covering.{Edge}
-use Rattle.covering.specs.Edges.{IsOctilinear, IsOnWay, IsStraight}
-use Rattle.covering.proofs.Counts.{less_true, less_false}
+use Rattle.plane.specs.Covering.{Edge}
+use Rattle.plane.specs.Edges.{IsOctilinear, IsOnWay, IsStraight}
+use Rattle.plane.proofs.Counts.{less_true, less_false}
 use Rattle.rings.specs.Turning.{direction}
 
 -- which of the lines of direction d the corner is on

@@ -3,9 +3,9 @@ use Rattle.std.proofs.Common.{◌≡◌, refl, sym, subst, ap, ◌∙◌, ℕ, z
 use Rattle.std.proofs.lemmas.Int.{ints, by_lt_z}
 use Rattle.std.proofs.lemmas.Bool.{cases_order}
 use Rattle.grid_num.specs.declared.Point.{Point}
-use Rattle.covering.specs.Covering.{Edge}
+use Rattle.plane.specs.Covering.{Edge}
 use Rattle.strips.specs.declared.Strip.{Strip}
-use Rattle.rings.specs.Turning.{direction, turn_to, IsNext}
+use Rattle.rings.specs.Turning.{direction, turn_to, IsNextEdge}
 use Rattle.rings.specs.Boundary.{left_edge, right_edge, side_edges, IsCorner, IsLevelPart, AreBoundary}
 use Rattle.rings.proofs.Lists.{Has, has_of, of_has}
 use Rattle.rings.proofs.Lines.{line, along, GoesOn, direction_low}
@@ -28,7 +28,7 @@ pub record IsNear (es : List Edge) (e f : Edge) : Type 0 where
 unfoldable pub Alternate : List Edge → Type 0
 Alternate es = (e : Edge) → Has es e → (f : Edge) × IsNear es e f
 
-pub near_next : (es : List Edge) (e f : Edge) → IsNear es e f → IsNext es e f
+pub near_next : (es : List Edge) (e f : Edge) → IsNear es e f → IsNextEdge es e f
 near_next es e f n = record { one = of_has es f n.one; joins = n.joins; first = λ g c j. n.out g (has_of es g c) j }
 
 -- ---- no two edges have the same next one
@@ -49,7 +49,7 @@ same_way : (a b d : ℕ) → a < 8 → b < 8 → d < 8 → (d + 11 - a) % 8 ≤ 
 same_way a b d h1 h2 h3 p q = omega (arith, h1, h2, h3, p, q)
 
 unfoldable pub OneToOne : List Edge → Type 0
-OneToOne es = (e g f : Edge) → Has es e → Has es g → IsNext es e f → IsNext es g f → e ≡ g
+OneToOne es = (e g f : Edge) → Has es e → Has es g → IsNextEdge es e f → IsNextEdge es g f → e ≡ g
 
 pub one_to_one : (es : List Edge) → AreTidy es → Alternate es → OneToOne es
 unfolding Alternate OneToOne HasOneNext turn_to

@@ -5,9 +5,9 @@ use Rattle.std.specs.List.Sorted.{IsPermutation}
 use Rattle.std.proofs.lemmas.List.{append_assoc, length-append}
 use Rattle.std.proofs.lemmas.List.Elements.{All-cons, All-nil}
 use Rattle.std.proofs.lemmas.List.Sorted.{IsPermutation-refl, IsPermutation-cons, IsPermutation-trans, IsPermutation-sym, IsPermutation-insert, IsPermutation-append_right, length_permutation}
-use Rattle.covering.specs.Covering.{Edge}
-use Rattle.rings.specs.Turning.{IsNext}
-use Rattle.rings.specs.Walks.{visits_after, last_of, IsWalk, joined}
+use Rattle.plane.specs.Covering.{Edge}
+use Rattle.rings.specs.Turning.{IsNextEdge}
+use Rattle.rings.specs.Walks.{visits_after, last_of, IsWalk, joined_walks}
 use Rattle.rings.proofs.Lists.{Has, has_head, has_of, has_left, has_right, has_parts, has_split, has_permuted, NoRepeats, no_repeats_left, no_repeats_right, no_repeats_apart, no_repeats_permuted}
 use Rattle.rings.proofs.Unique.{edge_test, same_edge}
 use Rattle.rings.proofs.Walks.{LeadsTo, first_visit, visits_head}
@@ -21,12 +21,12 @@ middle z (u ∷ us) vs =
     (IsPermutation-cons u (z ∷ (us ++ vs)) (us ++ z ∷ vs) (middle z us vs))
 
 -- ---- chains of next edges
-leads_more : (es : List Edge) (z y a : Edge) (bs : List Edge) → LeadsTo es z a bs → IsNext es z y → LeadsTo es y a (bs ++ z ∷ [])
+leads_more : (es : List Edge) (z y a : Edge) (bs : List Edge) → LeadsTo es z a bs → IsNextEdge es z y → LeadsTo es y a (bs ++ z ∷ [])
 unfolding LeadsTo
 leads_more es z y a [] p n = (p, n)
 leads_more es z y a (b ∷ bs) p n = (p.0, leads_more es z y b bs p.1 n)
 
-leads_last : (es : List Edge) (z a : Edge) (bs : List Edge) → LeadsTo es z a bs → IsNext es (last_of a bs) z
+leads_last : (es : List Edge) (z a : Edge) (bs : List Edge) → LeadsTo es z a bs → IsNextEdge es (last_of a bs) z
 unfolding LeadsTo last_of
 leads_last es z a [] p = p
 leads_last es z a (b ∷ bs) p = leads_last es z b bs p.1
@@ -42,10 +42,10 @@ last_part a b [] vs = refl
 last_part a b (u ∷ us) vs = last_part u b us vs
 
 -- each edge of the chain but the first is the next one of an edge of it
-before_in : (es : List Edge) (z a : Edge) (bs : List Edge) (f : Edge) → LeadsTo es z a bs → Has bs f → (p : Edge) × Has (a ∷ bs) p × IsNext es p f
+before_in : (es : List Edge) (z a : Edge) (bs : List Edge) (f : Edge) → LeadsTo es z a bs → Has bs f → (p : Edge) × Has (a ∷ bs) p × IsNextEdge es p f
 unfolding LeadsTo Has
 before_in es z a [] f p h = absurd h
-before_in es z a (b ∷ bs) f p (inl k) = (a, inl refl, subst (IsNext es a) k p.0)
+before_in es z a (b ∷ bs) f p (inl k) = (a, inl refl, subst (IsNextEdge es a) k p.0)
 before_in es z a (b ∷ bs) f p (inr h) = let r = before_in es z b bs f p.1 h in (r.0, inr r.1, r.2)
 
 -- one never comes back into the middle of the chain
@@ -67,7 +67,7 @@ not_middle es z a bs o i n p h =
 
 -- ---- one orbit
 unfoldable pub IsClosed : List Edge → List Edge → Type 0
-IsClosed es xs = (e : Edge) → Has xs e → (f : Edge) × IsNext es e f × Has xs f
+IsClosed es xs = (e : Edge) → Has xs e → (f : Edge) × IsNextEdge es e f × Has xs f
 
 -- edges of es, none twice, and with each its next one
 pub record IsPool (es all : List Edge) : Type 0 where
@@ -119,22 +119,22 @@ orbit_from (suc k) es all a z bs rest o p l m h s = elim (orbit_step es all a z 
 ]
 
 -- ---- all orbits
-visits_from : (es : List Edge) (z a : Edge) (bs : List Edge) → LeadsTo es z a bs → All (λ u. IsNext es u.comes u.goes) (visits_after a bs)
+visits_from : (es : List Edge) (z a : Edge) (bs : List Edge) → LeadsTo es z a bs → All (λ u. IsNextEdge es u.comes u.goes) (visits_after a bs)
 unfolding LeadsTo visits_after
-visits_from es z a [] p = All-nil (λ u. IsNext es u.comes u.goes)
-visits_from es z a (b ∷ bs) p = All-cons (λ u. IsNext es u.comes u.goes) (record { comes = a; goes = b }) (visits_after b bs) p.0 (visits_from es z b bs p.1)
+visits_from es z a [] p = All-nil (λ u. IsNextEdge es u.comes u.goes)
+visits_from es z a (b ∷ bs) p = All-cons (λ u. IsNextEdge es u.comes u.goes) (record { comes = a; goes = b }) (visits_after b bs) p.0 (visits_from es z b bs p.1)
 
 pub orbit_walk : (es : List Edge) (a : Edge) (bs : List Edge) → LeadsTo es a a bs → IsWalk es (a ∷ bs)
 unfolding first_visit
 orbit_walk es a bs p = record {
   some = λ e. (let l = ap length e in omega (arith, l));
-  next = subst (All (λ u. IsNext es u.comes u.goes)) (sym (visits_head a bs)) (All-cons (λ u. IsNext es u.comes u.goes) (first_visit a bs) (visits_after a bs) (leads_last es a a bs p) (visits_from es a a bs p));
+  next = subst (All (λ u. IsNextEdge es u.comes u.goes)) (sym (visits_head a bs)) (All-cons (λ u. IsNextEdge es u.comes u.goes) (first_visit a bs) (visits_after a bs) (leads_last es a a bs p) (visits_from es a a bs p));
 }
 
 -- each edge of an orbit is the next one of an edge of it
-orbit_before : (es : List Edge) (a : Edge) (bs : List Edge) (f : Edge) → LeadsTo es a a bs → Has (a ∷ bs) f → (p : Edge) × Has (a ∷ bs) p × IsNext es p f
+orbit_before : (es : List Edge) (a : Edge) (bs : List Edge) (f : Edge) → LeadsTo es a a bs → Has (a ∷ bs) f → (p : Edge) × Has (a ∷ bs) p × IsNextEdge es p f
 unfolding Has
-orbit_before es a bs f l (inl e) = (last_of a bs, last_in a bs, subst (IsNext es (last_of a bs)) e (leads_last es a a bs l))
+orbit_before es a bs f l (inl e) = (last_of a bs, last_in a bs, subst (IsNextEdge es (last_of a bs)) e (leads_last es a a bs l))
 orbit_before es a bs f l (inr h) = before_in es a a bs f l h
 
 pub pool_rest : (es all : List Edge) (a : Edge) → OneToOne es → IsPool es all → (r : IsOrbit es all a) → IsPool es r.rest
@@ -160,7 +160,7 @@ pool_rest es all a o p r =
 -- the walks of a pool
 pub record IsWalked (es all : List Edge) : Type 0 where
   pub walks : List (List Edge)
-  pub perm : IsPermutation (joined walks) all
+  pub perm : IsPermutation (joined_walks walks) all
   pub are : (w : List Edge) → Has walks w → IsWalk es w
 
 pub first_next : (es : List Edge) (a : Edge) (as' : List Edge) → IsPool es (a ∷ as') → (z : Edge) × LeadsTo es z a [] × Has (a ∷ as') z
@@ -179,11 +179,11 @@ walked (suc k) es (a ∷ as') o p s =
     let m = walked k es r.rest o (pool_rest es (a ∷ as') a o p r) (omega (arith, u, t, s)) in
     record {
       walks = (a ∷ r.others) ∷ m.walks;
-      perm = IsPermutation-trans ((a ∷ r.others) ++ joined m.walks) ((a ∷ r.others) ++ r.rest) (a ∷ as') (IsPermutation-append_right (a ∷ r.others) (joined m.walks) r.rest m.perm) r.perm;
+      perm = IsPermutation-trans ((a ∷ r.others) ++ joined_walks m.walks) ((a ∷ r.others) ++ r.rest) (a ∷ as') (IsPermutation-append_right (a ∷ r.others) (joined_walks m.walks) r.rest m.perm) r.perm;
       are = λ w h. elim h [ inl e ↦ subst (IsWalk es) e (orbit_walk es a r.others r.leads) | inr h ↦ m.are w h ];
     }
 
 -- all edges fall into walks
-pub orbits : (es : List Edge) → NoRepeats es → ((e : Edge) → Has es e → (f : Edge) × IsNext es e f) → OneToOne es → IsWalked es es
+pub orbits : (es : List Edge) → NoRepeats es → ((e : Edge) → Has es e → (f : Edge) × IsNextEdge es e f) → OneToOne es → IsWalked es es
 unfolding IsClosed
 orbits es n f o = walked (length es) es es o (record { closed = λ e h. (let r = f e h in (r.0, r.1, has_of es r.0 (r.1).one)); inside = λ e h. h; once = n }) (omega arith)

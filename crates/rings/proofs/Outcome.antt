@@ -10,16 +10,16 @@ use Rattle.std.proofs.lemmas.Bool.{false≢true}
 use Rattle.std.proofs.lemmas.Bool.Decides.{Decides-int_eq}
 use Rattle.plane.specs.Plane.{grid_point}
 use Rattle.grid_num.specs.declared.Point.{Point}
-use Rattle.covering.specs.Covering.{Edge, IsOn}
-use Rattle.covering.proofs.Counts.{less_true, less_false}
-use Rattle.covering.proofs.Laws.{start_on}
+use Rattle.plane.specs.Covering.{Edge, IsOn}
+use Rattle.plane.proofs.Counts.{less_true, less_false}
+use Rattle.plane.proofs.CoverLaws.{start_on}
 use Rattle.strips.specs.declared.Strip.{Strip}
 use Rattle.rings.specs.Walks.{Visit, visits, AreContours}
 use Rattle.rings.specs.Loops.{Loop, IsHole, AreLoopsOf}
 use Rattle.rings.specs.Slits.{IsSlit}
 use Rattle.rings.specs.Rings.{holes_of, with_slits, AreRingsOf}
 use Rattle.rings.specs.Boundary.{side_edges, IsCorner, AreBoundary}
-use Rattle.rings.specs.Tracing.{is_less_point, Drawing, drawings_of, is_open_left, some_visit, loop_of, loops_by, Reach, reach_more, reach_of, slit_by, slits_by, rings_by}
+use Rattle.rings.specs.Inner.Tracing.{is_less_point, Drawing, drawings_of, is_open_left, some_visit, loop_of, loops_by, Reach, reach_more, slit_reach, slit_by, slits_by, rings_by}
 use Rattle.rings.proofs.Lists.{Has, has_left}
 use Rattle.rings.proofs.Order.{point_same}
 use Rattle.rings.proofs.Unique.{AreSame, and_both, edge_same}
@@ -129,9 +129,9 @@ more_is es seen h r e i s = at (bool_cases (reaches h r e))
         not_again f q y x k = not_reached h r f (subst (λ z. reaches h r z ≡ false) q k) y x
 
 reach_is : (es seen : List Edge) (h : Point) (r : Reach) (gs : List Edge) → ((e : Edge) → Has gs e → Has es e) → IsReach es seen h r
-    → ((f : Edge) → Has seen f ⊎ Has gs f → f.start.y ≡ h.y → f.start.x <ℤ h.x → ((reach_of h r gs).some ≡ true) × (f.start.x ≤ℤ (reach_of h r gs).x))
-    × ((reach_of h r gs).some ≡ true → (e : Edge) × Has es e × (e.start.y ≡ h.y) × (e.start.x <ℤ h.x) × (e.start.x ≡ (reach_of h r gs).x))
-unfolding reach_of Has
+    → ((f : Edge) → Has seen f ⊎ Has gs f → f.start.y ≡ h.y → f.start.x <ℤ h.x → ((slit_reach h r gs).some ≡ true) × (f.start.x ≤ℤ (slit_reach h r gs).x))
+    × ((slit_reach h r gs).some ≡ true → (e : Edge) × Has es e × (e.start.y ≡ h.y) × (e.start.x <ℤ h.x) × (e.start.x ≡ (slit_reach h r gs).x))
+unfolding slit_reach Has
 reach_is es seen h r [] i s = (λ f j y x. elim j [ inl j ↦ s.most f j y x | inr j ↦ absurd j ], s.found)
 reach_is es seen h r (e ∷ gs) i s =
     let t = reach_is es (e ∷ seen) h (reach_more h r e) gs (λ f j. i f (inr j)) (more_is es seen h r e (i e (inl refl)) s) in (
@@ -168,11 +168,11 @@ slit_same ss es fs cs s o b a t c =
     let f = r.1 m.0 in
     let m1 = m.1 in
     let fy = f.2 in let fx = f.3 in let fr = f.4 in
-    let same : (reach_of h none fs).x ≡ s.finish.x = by_lt_z {P = (reach_of h none fs).x ≡ s.finish.x} s.finish.x (reach_of h none fs).x
+    let same : (slit_reach h none fs).x ≡ s.finish.x = by_lt_z {P = (slit_reach h none fs).x ≡ s.finish.x} s.finish.x (slit_reach h none fs).x
     (λ l. absurd (t.first (grid_point f.0.start.x f.0.start.y) (omega (arith, ints, fy)) (omega (arith, ints, l, fr)) (omega (arith, ints, fx))
     (has_any (λ e. IsOn e (grid_point f.0.start.x f.0.start.y)) es f.0 (a.back f.0 f.1) (start_on (grid_point f.0.start.x f.0.start.y) f.0 (omega (arith, ints)) (omega (arith, ints))))))
     (λ l. omega (arith, ints, l, m1, kx)) in
-    edge_same (record { start = h; finish = record { x = (reach_of h none fs).x; y = h.y } }) s refl (point_same (record { x = (reach_of h none fs).x; y = h.y }) s.finish same (sym ty))
+    edge_same (record { start = h; finish = record { x = (slit_reach h none fs).x; y = h.y } }) s refl (point_same (record { x = (slit_reach h none fs).x; y = h.y }) s.finish same (sym ty))
 
 slits_same : (ss : List Strip) (es fs : List Edge) (holes : List (List Point)) (slits : List Edge) → AreOrdered ss → AreBoundary ss es → AreSame es fs → AllZip (IsSlit es) holes slits → AllSlits ss slits → slits_by fs holes ≡ slits
 unfolding AllSlits Has slits_by

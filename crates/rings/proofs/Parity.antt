@@ -4,15 +4,15 @@ use Rattle.std.specs.Prelude.{ℤ, pos, ◌+ℤ◌, ◌-ℤ◌, ◌*ℤ◌, ◌�
 use Rattle.std.proofs.lemmas.Int.{ints, by_lt_z}
 use Rattle.std.proofs.lemmas.List.Sums.{sum_by-cons, sum_by-le}
 use Rattle.plane.specs.Plane.{PlanePoint}
-use Rattle.plane.proofs.Times.{mul_lt, mul_le, mul_add, mul_sub}
-use Rattle.covering.specs.Covering.{Edge, IsOn, crossing, crossings, down_crossing, Covers}
-use Rattle.covering.proofs.Counts.{Counts, upright, rise, fall, none_up}
-use Rattle.covering.proofs.On.{on_upright, upright_on, on_rise, rise_on, on_fall, fall_on}
-use Rattle.covering.specs.Edges.{IsOctilinear, turned}
-use Rattle.covering.proofs.Laws.{on_turned, crossings_append}
-use Rattle.covering.proofs.Lists.{any_none, any_head, any_tail, any_cases, any_left, any_parts}
+use Rattle.grid_num.proofs.Products.{mul_lt, mul_le, mul_add, mul_sub}
+use Rattle.plane.specs.Covering.{Edge, IsOn, crossing, crossings, down_crossing, Covers}
+use Rattle.plane.proofs.Counts.{Counts, upright, rise, fall, none_up}
+use Rattle.plane.proofs.On.{on_upright, upright_on, on_rise, rise_on, on_fall, fall_on}
+use Rattle.plane.specs.Edges.{IsOctilinear, turned_back}
+use Rattle.plane.proofs.CoverLaws.{on_turned, crossings_append}
+use Rattle.plane.proofs.Lists.{any_none, any_head, any_tail, any_cases, any_left, any_parts}
 use Rattle.strips.specs.declared.Strip.{Strip}
-use Rattle.strips.specs.Strips.{IsInStrip, IsSloped, IsBefore}
+use Rattle.strips.specs.Strips.{IsInStrip, IsSloped, IsStripBefore}
 use Rattle.rings.specs.Boundary.{left_edge, right_edge, side_edges}
 use Rattle.strips.proofs.Slab.{IsRun, IsAt, line_le, strip_between, between_strip, IsLeftAt, IsRightAt, sides}
 
@@ -88,19 +88,19 @@ sloped_octilinear t u l le (inl e) = inr (inl (sym e))
 sloped_octilinear t u l le (inr (inl e)) = inr (inr (inl e))
 sloped_octilinear t u l le (inr (inr e)) = inr (inr (inr (omega (arith, ints))))
 
-octilinear_turned : (e : Edge) → IsOctilinear e → IsOctilinear (turned e)
-unfolding IsOctilinear turned
+octilinear_turned : (e : Edge) → IsOctilinear e → IsOctilinear (turned_back e)
+unfolding IsOctilinear turned_back
 octilinear_turned e (inl h) = inl (sym h)
 octilinear_turned e (inr (inl h)) = inr (inl (sym h))
 octilinear_turned e (inr (inr (inl h))) = inr (inr (inl (omega (arith, ints))))
 octilinear_turned e (inr (inr (inr h))) = inr (inr (inr (omega (arith, ints))))
 
 left_down : (s : Strip) (p : PlanePoint) → IsRun s → IsOn (left_edge s) p → IsOn (down_edge s.top s.bottom s.left s.left_end) p
-unfolding turned
+unfolding turned_back
 left_down s p r o = on_turned p (left_edge s) (octilinear_turned (down_edge s.top s.bottom s.left s.left_end) (sloped_octilinear s.top s.bottom s.left s.left_end r.left)) o
 
 down_left : (s : Strip) (p : PlanePoint) → IsRun s → IsOn (down_edge s.top s.bottom s.left s.left_end) p → IsOn (left_edge s) p
-unfolding turned
+unfolding turned_back
 down_left s p r o = on_turned p (down_edge s.top s.bottom s.left s.left_end) (sloped_octilinear s.top s.bottom s.left s.left_end r.left) o
 
 -- ---- one strip
@@ -190,7 +190,7 @@ AreSound (s ∷ ss) = IsSound s × AreSound ss
 
 unfoldable pub IsBeforeAll : Strip → List Strip → Type 0
 IsBeforeAll a [] = Unit {0}
-IsBeforeAll a (b ∷ bs) = IsBefore a b × IsBeforeAll a bs
+IsBeforeAll a (b ∷ bs) = IsStripBefore a b × IsBeforeAll a bs
 
 unfoldable pub AreInOrder : List Strip → Type 0
 AreInOrder [] = Unit {0}
@@ -212,7 +212,7 @@ pair_odd s p k =
     ]
 
 -- no point is half open in two strips
-not_both : (a b : Strip) (p : PlanePoint) → IsSound a → IsSound b → IsBefore a b → IsHalfOpen a p → IsHalfOpen b p → ⊥
+not_both : (a b : Strip) (p : PlanePoint) → IsSound a → IsSound b → IsStripBefore a b → IsHalfOpen a p → IsHalfOpen b p → ⊥
 not_both a b p ka kb (inl h) x y =
     let u = x.above in
     let i = y.inside in

@@ -6,12 +6,12 @@ use Rattle.std.proofs.lemmas.Int.{ints, by_lt_z}
 use Rattle.std.proofs.lemmas.Bool.{false≢true}
 use Rattle.std.proofs.lemmas.Bool.Decides.{Decides-int_eq}
 use Rattle.grid_num.specs.declared.Point.{Point}
-use Rattle.covering.specs.Covering.{Edge}
-use Rattle.covering.specs.Edges.{IsOctilinear}
-use Rattle.covering.proofs.On.{same_pos}
-use Rattle.covering.proofs.Counts.{less_false, neg_pos, level_run, rise_run, fall_run}
+use Rattle.plane.specs.Covering.{Edge}
+use Rattle.plane.specs.Edges.{IsOctilinear}
+use Rattle.plane.proofs.On.{same_pos}
+use Rattle.plane.proofs.Counts.{less_false, neg_pos, level_run, rise_run, fall_run}
 use Rattle.rings.specs.Turning.{direction}
-use Rattle.rings.specs.Slits.{is_between, is_inside, first_part, second_part, cut_one, cut_at}
+use Rattle.rings.specs.Slits.{is_strictly_between, is_inside_edge, first_part, second_part, cut_one, cut_edges}
 use Rattle.rings.proofs.Lists.{Has, has_left, has_right, has_parts, NoRepeats, no_repeats_append}
 use Rattle.rings.proofs.Lines.{line, along, GoesOn, IsGood, direction_is, direction_low, good_octilinear}
 use Rattle.rings.proofs.Turning.{AreApart}
@@ -40,7 +40,7 @@ unfolding AreGood AreParted AreApart
 parted_apart es g p e f h i s d = p e f e.start h i d (starts_on e (g e h)) (subst (λ z. OnHalf f z) (sym s) (starts_on f (g f i)))
 
 -- ---- inside
-between_cases : (a z b : ℤ) → is_between a z b ≡ true → ((a <ℤ z) × (z <ℤ b)) ⊎ ((b <ℤ z) × (z <ℤ a))
+between_cases : (a z b : ℤ) → is_strictly_between a z b ≡ true → ((a <ℤ z) × (z <ℤ b)) ⊎ ((b <ℤ z) × (z <ℤ a))
 between_cases a z b h = at (int_lt a z) (int_lt z b) (int_lt b z) (int_lt z a) refl refl refl refl h
   where
     lt : (u v : ℤ) → int_lt u v ≡ true → u <ℤ v
@@ -99,13 +99,13 @@ or_cases : (a b : Bool) → (a || b) ≡ true → (a ≡ true) ⊎ (b ≡ true)
 or_cases true b h = inl refl
 or_cases false b h = inr h
 
-amid : (e : Edge) (q : Point) → (is_between e.start.y q.y e.finish.y || (int_eq e.start.y e.finish.y && (int_eq q.y e.start.y && is_between e.start.x q.x e.finish.x))) ≡ true → Amid e q
+amid : (e : Edge) (q : Point) → (is_strictly_between e.start.y q.y e.finish.y || (int_eq e.start.y e.finish.y && (int_eq q.y e.start.y && is_strictly_between e.start.x q.x e.finish.x))) ≡ true → Amid e q
 unfolding Amid
-amid e q h = elim (or_cases (is_between e.start.y q.y e.finish.y) (int_eq e.start.y e.finish.y && (int_eq q.y e.start.y && is_between e.start.x q.x e.finish.x)) h) [
+amid e q h = elim (or_cases (is_strictly_between e.start.y q.y e.finish.y) (int_eq e.start.y e.finish.y && (int_eq q.y e.start.y && is_strictly_between e.start.x q.x e.finish.x)) h) [
   | inl k ↦ inl (between_cases e.start.y q.y e.finish.y k)
   | inr k ↦
-      let a = and_both (int_eq e.start.y e.finish.y) (int_eq q.y e.start.y && is_between e.start.x q.x e.finish.x) k in
-      let b = and_both (int_eq q.y e.start.y) (is_between e.start.x q.x e.finish.x) a.1 in
+      let a = and_both (int_eq e.start.y e.finish.y) (int_eq q.y e.start.y && is_strictly_between e.start.x q.x e.finish.x) k in
+      let b = and_both (int_eq q.y e.start.y) (is_strictly_between e.start.x q.x e.finish.x) a.1 in
       inr ((Decides-int_eq e.start.y e.finish.y).0 a.0, (Decides-int_eq q.y e.start.y).0 b.0, between_cases e.start.x q.x e.finish.x b.1)
 ]
 
@@ -122,11 +122,11 @@ within_at (suc (suc (suc (suc (suc (suc zero)))))) h e q g s m = let l = g.line 
 within_at (suc (suc (suc (suc (suc (suc (suc zero))))))) h e q g s m = let l = g.line in let o = g.on in (omega (arith, ints, l, o, s, m), omega (arith, ints, l, o, s, m), omega (arith, ints, l, o, s, m))
 within_at (suc (suc (suc (suc (suc (suc (suc (suc d)))))))) h e q g s m = absurd (omega (arith, h))
 
-pub inside_within : (e : Edge) (q : Point) → IsGood e → is_inside e q ≡ true → IsWithin e q
-unfolding is_inside
+pub inside_within : (e : Edge) (q : Point) → IsGood e → is_inside_edge e q ≡ true → IsWithin e q
+unfolding is_inside_edge
 inside_within e q g h =
     let a = and_both (int_eq ((e.finish.y -ℤ e.start.y) *ℤ (q.x -ℤ e.start.x)) ((e.finish.x -ℤ e.start.x) *ℤ (q.y -ℤ e.start.y)))
-    (is_between e.start.y q.y e.finish.y || (int_eq e.start.y e.finish.y && (int_eq q.y e.start.y && is_between e.start.x q.x e.finish.x))) h in
+    (is_strictly_between e.start.y q.y e.finish.y || (int_eq e.start.y e.finish.y && (int_eq q.y e.start.y && is_strictly_between e.start.x q.x e.finish.x))) h in
     let s = straight e q (good_octilinear e g) ((Decides-int_eq ((e.finish.y -ℤ e.start.y) *ℤ (q.x -ℤ e.start.x)) ((e.finish.x -ℤ e.start.x) *ℤ (q.y -ℤ e.start.y))).0 a.0) in
     let w = within_at (direction e) (direction_low e) e q g s (amid e q a.1) in
     record { line = w.0; after = w.1; before = w.2 }
@@ -146,23 +146,23 @@ second_direction e q g w = direction_is (direction e) (direction_low e) (second_
 
 -- f is the edge or one of its parts
 pub data IsPart (q : Point) (e f : Edge) : Type 0 where
-  Whole : is_inside e q ≡ false → f ≡ e → IsPart q e f
-  First : is_inside e q ≡ true → f ≡ first_part e q → IsPart q e f
-  Second : is_inside e q ≡ true → f ≡ second_part e q → IsPart q e f
+  Whole : is_inside_edge e q ≡ false → f ≡ e → IsPart q e f
+  First : is_inside_edge e q ≡ true → f ≡ first_part e q → IsPart q e f
+  Second : is_inside_edge e q ≡ true → f ≡ second_part e q → IsPart q e f
 
-pub cut_true : (q : Point) (e : Edge) → is_inside e q ≡ true → cut_one q e ≡ first_part e q ∷ second_part e q ∷ []
+pub cut_true : (q : Point) (e : Edge) → is_inside_edge e q ≡ true → cut_one q e ≡ first_part e q ∷ second_part e q ∷ []
 unfolding cut_one
 cut_true q e h = rw h refl
 
-pub cut_false : (q : Point) (e : Edge) → is_inside e q ≡ false → cut_one q e ≡ e ∷ []
+pub cut_false : (q : Point) (e : Edge) → is_inside_edge e q ≡ false → cut_one q e ≡ e ∷ []
 unfolding cut_one
 cut_false q e h = rw h refl
 
 one_part : (q : Point) (e f : Edge) → Has (cut_one q e) f → IsPart q e f
 unfolding Has
-one_part q e f h = at (is_inside e q) refl
+one_part q e f h = at (is_inside_edge e q) refl
   where
-    at : (b : Bool) → is_inside e q ≡ b → IsPart q e f
+    at : (b : Bool) → is_inside_edge e q ≡ b → IsPart q e f
     at true i = elim (subst (λ fs. Has fs f) (cut_true q e i) h) [ inl k ↦ First i (sym k) | inr k ↦ elim k [ inl k ↦ Second i (sym k) | inr k ↦ absurd k ] ]
     at false i = elim (subst (λ fs. Has fs f) (cut_false q e i) h) [ inl k ↦ Whole i (sym k) | inr k ↦ absurd k ]
 
@@ -172,19 +172,19 @@ part_one q e f (Whole i k) = subst (λ fs. Has fs f) (sym (cut_false q e i)) (in
 part_one q e f (First i k) = subst (λ fs. Has fs f) (sym (cut_true q e i)) (inl (sym k))
 part_one q e f (Second i k) = subst (λ fs. Has fs f) (sym (cut_true q e i)) (inr (inl (sym k)))
 
-pub has_cut : (q : Point) (es : List Edge) (f : Edge) → Has (cut_at q es) f → (e : Edge) × Has es e × IsPart q e f
-unfolding cut_at Has
+pub has_cut : (q : Point) (es : List Edge) (f : Edge) → Has (cut_edges q es) f → (e : Edge) × Has es e × IsPart q e f
+unfolding cut_edges Has
 has_cut q [] f h = absurd h
-has_cut q (e ∷ es) f h = elim (has_parts (cut_one q e) (cut_at q es) f h) [
+has_cut q (e ∷ es) f h = elim (has_parts (cut_one q e) (cut_edges q es) f h) [
   | inl i ↦ (e, inl refl, one_part q e f i)
   | inr i ↦ (let r = has_cut q es f i in (r.0, inr r.1, r.2))
 ]
 
-pub cut_has : (q : Point) (es : List Edge) (e f : Edge) → Has es e → IsPart q e f → Has (cut_at q es) f
-unfolding cut_at Has
+pub cut_has : (q : Point) (es : List Edge) (e f : Edge) → Has es e → IsPart q e f → Has (cut_edges q es) f
+unfolding cut_edges Has
 cut_has q [] e f h p = absurd h
-cut_has q (d ∷ es) e f (inl k) p = has_left (cut_one q d) (cut_at q es) f (subst (λ z. Has (cut_one q z) f) (sym k) (part_one q e f p))
-cut_has q (d ∷ es) e f (inr h) p = has_right (cut_one q d) (cut_at q es) f (cut_has q es e f h p)
+cut_has q (d ∷ es) e f (inl k) p = has_left (cut_one q d) (cut_edges q es) f (subst (λ z. Has (cut_one q z) f) (sym k) (part_one q e f p))
+cut_has q (d ∷ es) e f (inr h) p = has_right (cut_one q d) (cut_edges q es) f (cut_has q es e f h p)
 
 -- ---- a part goes as the edge does
 pub part_good : (q : Point) (e f : Edge) → IsGood e → IsPart q e f → IsGood f
@@ -236,11 +236,11 @@ part_same q e f h x g (Second i k) (First j l) o p =
 part_same q e f h x g (Second i k) (Second j l) o p = k ∙ sym l
 
 -- ---- all edges, cut at one corner
-pub good_cut : (q : Point) (es : List Edge) → AreGood es → AreGood (cut_at q es)
+pub good_cut : (q : Point) (es : List Edge) → AreGood es → AreGood (cut_edges q es)
 unfolding AreGood
 good_cut q es g f h = let r = has_cut q es f h in part_good q r.0 f (g r.0 r.1) r.2
 
-pub parted_cut : (q : Point) (es : List Edge) → AreGood es → AreParted es → AreParted (cut_at q es)
+pub parted_cut : (q : Point) (es : List Edge) → AreGood es → AreParted es → AreParted (cut_edges q es)
 unfolding AreGood AreParted
 parted_cut q es g p e f x h i d o u =
     let r = has_cut q es e h in
@@ -255,9 +255,9 @@ first_not_second e q w k = let a = w.after in let b = ap (λ z. along (direction
 
 cut_one_once : (q : Point) (e : Edge) → IsGood e → NoRepeats (cut_one q e)
 unfolding NoRepeats Has
-cut_one_once q e g = at (is_inside e q) refl
+cut_one_once q e g = at (is_inside_edge e q) refl
   where
-    at : (b : Bool) → is_inside e q ≡ b → NoRepeats (cut_one q e)
+    at : (b : Bool) → is_inside_edge e q ≡ b → NoRepeats (cut_one q e)
     at true i = subst NoRepeats (sym (cut_true q e i)) (λ h. elim h [ inl k ↦ first_not_second e q (inside_within e q g i) (sym k) | inr k ↦ k ], (λ h. h, tt))
     at false i = subst NoRepeats (sym (cut_false q e i)) (λ h. h, tt)
 
@@ -269,11 +269,11 @@ pub good_tail : (e : Edge) (es : List Edge) → AreGood (e ∷ es) → AreGood e
 unfolding AreGood Has
 good_tail e es g f h = g f (inr h)
 
-pub once_cut : (q : Point) (es : List Edge) → AreGood es → AreParted es → NoRepeats es → NoRepeats (cut_at q es)
-unfolding cut_at NoRepeats AreGood AreParted Has
+pub once_cut : (q : Point) (es : List Edge) → AreGood es → AreParted es → NoRepeats es → NoRepeats (cut_edges q es)
+unfolding cut_edges NoRepeats AreGood AreParted Has
 once_cut q [] g p n = tt
 once_cut q (e ∷ es) g p n =
-    no_repeats_append (cut_one q e) (cut_at q es) (cut_one_once q e (g e (inl refl))) (once_cut q es (good_tail e es g) (parted_tail e es p) n.1)
+    no_repeats_append (cut_one q e) (cut_edges q es) (cut_one_once q e (g e (inl refl))) (once_cut q es (good_tail e es g) (parted_tail e es p) n.1)
     (λ f h i.
     let a = one_part q e f h in
     let r = has_cut q es f i in

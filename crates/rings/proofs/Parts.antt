@@ -6,9 +6,9 @@ use Rattle.std.proofs.lemmas.Bool.{false≢true}
 use Rattle.std.proofs.lemmas.List.Kept.{AllPairs-cons}
 use Rattle.plane.specs.Plane.{PlanePoint}
 use Rattle.grid_num.specs.declared.Point.{Point}
-use Rattle.covering.specs.Covering.{Edge}
+use Rattle.plane.specs.Covering.{Edge}
 use Rattle.strips.specs.declared.Strip.{Strip}
-use Rattle.rings.specs.Boundary.{IsCorner, HasAbove, HasBelow, AreNeighbours, IsLevelPart, AreBoundary, side_edges}
+use Rattle.rings.specs.Boundary.{IsCorner, HasCopperAbove, HasCopperBelow, AreNeighbours, IsLevelPart, AreBoundary, side_edges}
 use Rattle.rings.proofs.Lists.{Has, has_left, has_right, of_has, all_of, found}
 use Rattle.rings.proofs.Sides.{AreOrdered}
 use Rattle.rings.proofs.Order.{point_same}
@@ -25,10 +25,10 @@ over_cases ss p = elim (found (λ s. (p.y ≡ pos p.scale *ℤ s.bottom) × (((p
       | inr f ↦ inr (λ s u. f s u.one (u.row, (u.from, u.to)))
     ]
 
-below_cases : (ss : List Strip) (p : PlanePoint) → AreOrdered ss → HasBelow ss p ⊎ (HasBelow ss p → ⊥)
+below_cases : (ss : List Strip) (p : PlanePoint) → AreOrdered ss → HasCopperBelow ss p ⊎ (HasCopperBelow ss p → ⊥)
 below_cases ss p o = elim (under_cases ss p) [ inl u ↦ inl (of_under ss p u.0 o u.1) | inr n ↦ inr (λ h. (let u = under_of ss p o h in n u.0 u.1)) ]
 
-above_cases : (ss : List Strip) (p : PlanePoint) → AreOrdered ss → HasAbove ss p ⊎ (HasAbove ss p → ⊥)
+above_cases : (ss : List Strip) (p : PlanePoint) → AreOrdered ss → HasCopperAbove ss p ⊎ (HasCopperAbove ss p → ⊥)
 above_cases ss p o = elim (over_cases ss p) [ inl u ↦ inl (of_over ss p u.0 o u.1) | inr n ↦ inr (λ h. (let u = over_of ss p o h in n u.0 u.1)) ]
 
 corner_cases : (ss : List Strip) (a : Point) → IsCorner ss a ⊎ (IsCorner ss a → ⊥)

@@ -3,9 +3,9 @@ use Rattle.std.proofs.Common.{List}
 use Rattle.std.specs.List.Sorted.{IsPermutation}
 use Rattle.std.proofs.lemmas.List.Sorted.{IsPermutation-sym, IsPermutation-trans}
 use Rattle.grid_num.specs.declared.Point.{Point}
-use Rattle.covering.specs.Covering.{Edge}
+use Rattle.plane.specs.Covering.{Edge}
 use Rattle.rings.specs.Loops.{Loop, AreLoopsOf}
-use Rattle.rings.specs.Walks.{joined, AreContours}
+use Rattle.rings.specs.Walks.{joined_walks, AreContours}
 use Rattle.rings.proofs.Lists.{has_permuted, no_repeats_permuted}
 use Rattle.rings.proofs.Parted.{AreGood, AreParted}
 use Rattle.rings.proofs.Unique.{AreSame, same_edge, edge_test, walk_again}
@@ -43,7 +43,7 @@ pub contours_permuted : (es fs : List Edge) (ws : List (List Edge)) (cs : List (
 contours_permuted es fs ws cs p a =
     let q = IsPermutation-sym es fs p in
     record {
-      once = IsPermutation-trans (joined ws) fs es a.once q;
+      once = IsPermutation-trans (joined_walks ws) fs es a.once q;
       next = λ k d l. walk_again fs es _ (permuted_same fs es q) (a.next k d l);
       draw = a.draw;
       order = a.order;

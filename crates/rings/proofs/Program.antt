@@ -9,9 +9,9 @@ use Rattle.std.proofs.lemmas.List.{append-nil, append_assoc}
 use Rattle.std.proofs.lemmas.List.Kept.{AllPairs-cons}
 use Rattle.std.proofs.lemmas.List.Sorted.{IsPermutation-refl, IsPermutation-trans, IsPermutation-sym, IsPermutation-append_right}
 use Rattle.grid_num.specs.declared.Point.{Point}
-use Rattle.covering.specs.Covering.{Edge}
-use Rattle.rings.specs.Walks.{bends, IsWalk, IsListLess, IsSameRound, IsContour, joined, AreContours}
-use Rattle.rings.specs.Tracing.{is_same_point, is_less_point, is_less_list, lesser, least_from, contour_of, Drawing, put, in_order, drawings_of, walks_of}
+use Rattle.plane.specs.Covering.{Edge}
+use Rattle.rings.specs.Walks.{bends, IsWalk, IsListLess, IsSameRound, IsContour, joined_walks, AreContours}
+use Rattle.rings.specs.Inner.Tracing.{is_same_point, is_less_point, is_less_list, lesser_list, least_from, contour_of, Drawing, put_in_order, in_corner_order, drawings_of, walks_of}
 use Rattle.rings.proofs.Lists.{Has, all_of, NoRepeats, no_repeats_right, no_repeats_apart, no_repeats_permuted, round_trans, Rising}
 use Rattle.rings.proofs.Order.{list_cases, list_order}
 use Rattle.rings.proofs.Turning.{AreApart}
@@ -61,12 +61,12 @@ record IsBest (cs front back best : List Point) : Type 0 where
   round : IsSameRound cs best
   least : IsLeast front back best
 
-lesser_yes : (cs ds : List Point) → is_less_list cs ds ≡ true → lesser cs ds ≡ cs
-unfolding lesser
+lesser_yes : (cs ds : List Point) → is_less_list cs ds ≡ true → lesser_list cs ds ≡ cs
+unfolding lesser_list
 lesser_yes cs ds h = rw h refl
 
-lesser_no : (cs ds : List Point) → is_less_list cs ds ≡ false → lesser cs ds ≡ ds
-unfolding lesser
+lesser_no : (cs ds : List Point) → is_less_list cs ds ≡ false → lesser_list cs ds ≡ ds
+unfolding lesser_list
 lesser_no cs ds h = rw h refl
 
 best_is : (cs front back : List Point) → cs ≡ front ++ back → IsBest cs front back (least_from front back)
@@ -83,7 +83,7 @@ best_is cs front (b ∷ back) e = at (best_is cs (front ++ b ∷ []) back (e ∙
     there : List Point
     there = least_from (front ++ b ∷ []) back
 
-    at : IsBest cs (front ++ b ∷ []) back there → (is_less_list here there ≡ true) ⊎ (is_less_list here there ≡ false) → IsBest cs front (b ∷ back) (lesser here there)
+    at : IsBest cs (front ++ b ∷ []) back there → (is_less_list here there ≡ true) ⊎ (is_less_list here there ≡ false) → IsBest cs front (b ∷ back) (lesser_list here there)
     at r (inl h) = subst (IsBest cs front (b ∷ back)) (sym (lesser_yes here there h)) (record {
       round = record { front = front; back = b ∷ back; was = e; is = refl };
       least = least_more front b back there here r.least (list_order.never here) (λ xs l. list_order.on xs here there l (list_told here there h));
@@ -115,19 +115,19 @@ IsEarlier d e = IsListLess d.corners e.corners
 
 record IsPut (d : Drawing) (ds new : List Drawing) : Type 0 where
   there : (e : Drawing) → Has new e → Has (d ∷ ds) e
-  edges : IsPermutation (joined (walks_in (d ∷ ds))) (joined (walks_in new))
+  edges : IsPermutation (joined_walks (walks_in (d ∷ ds))) (joined_walks (walks_in new))
   rising : Rising IsEarlier new
 
-put_yes : (d e : Drawing) (ds : List Drawing) → is_less_list d.corners e.corners ≡ true → put d (e ∷ ds) ≡ d ∷ e ∷ ds
-unfolding put
+put_yes : (d e : Drawing) (ds : List Drawing) → is_less_list d.corners e.corners ≡ true → put_in_order d (e ∷ ds) ≡ d ∷ e ∷ ds
+unfolding put_in_order
 put_yes d e ds h = rw h refl
 
-put_no : (d e : Drawing) (ds : List Drawing) → is_less_list d.corners e.corners ≡ false → put d (e ∷ ds) ≡ e ∷ put d ds
-unfolding put
+put_no : (d e : Drawing) (ds : List Drawing) → is_less_list d.corners e.corners ≡ false → put_in_order d (e ∷ ds) ≡ e ∷ put_in_order d ds
+unfolding put_in_order
 put_no d e ds h = rw h refl
 
-put_is : (d : Drawing) (ds : List Drawing) → Rising IsEarlier ds → ((e : Drawing) → Has ds e → d.corners ≡ e.corners → ⊥) → IsPut d ds (put d ds)
-unfolding put Rising Has IsEarlier walks_in
+put_is : (d : Drawing) (ds : List Drawing) → Rising IsEarlier ds → ((e : Drawing) → Has ds e → d.corners ≡ e.corners → ⊥) → IsPut d ds (put_in_order d ds)
+unfolding put_in_order Rising Has IsEarlier walks_in
 put_is d [] r f = record { there = λ e h. h; edges = IsPermutation-refl (d.walk ++ []); rising = (λ e h. absurd h, tt) }
 put_is d (e ∷ ds) r f = at (bool_cases (is_less_list d.corners e.corners)) (put_is d ds r.1 (λ g h. f g (inr h)))
   where
@@ -137,44 +137,44 @@ put_is d (e ∷ ds) r f = at (bool_cases (is_less_list d.corners e.corners)) (pu
       | inr o ↦ elim o [ inl k ↦ absurd (f e (inl refl) k) | inr l ↦ l ]
     ]
 
-    at : (is_less_list d.corners e.corners ≡ true) ⊎ (is_less_list d.corners e.corners ≡ false) → IsPut d ds (put d ds) → IsPut d (e ∷ ds) (put d (e ∷ ds))
+    at : (is_less_list d.corners e.corners ≡ true) ⊎ (is_less_list d.corners e.corners ≡ false) → IsPut d ds (put_in_order d ds) → IsPut d (e ∷ ds) (put_in_order d (e ∷ ds))
     at (inl h) i =
         let l = list_told d.corners e.corners h in
         subst (IsPut d (e ∷ ds)) (sym (put_yes d e ds h)) (record {
           there = λ g j. j;
-          edges = IsPermutation-refl (joined (walks_in (d ∷ e ∷ ds)));
+          edges = IsPermutation-refl (joined_walks (walks_in (d ∷ e ∷ ds)));
           rising = (λ g j. elim j [ inl k ↦ subst (λ z. IsListLess d.corners z.corners) k l | inr j ↦ list_order.on d.corners e.corners g.corners l (r.0 g j) ], r);
         })
     at (inr h) i =
         let l = later h in
         subst (IsPut d (e ∷ ds)) (sym (put_no d e ds h)) (record {
           there = λ g j. elim j [ inl k ↦ inr (inl k) | inr j ↦ elim (i.there g j) [ inl k ↦ inl k | inr j ↦ inr (inr j) ] ];
-          edges = IsPermutation-trans (d.walk ++ (e.walk ++ joined (walks_in ds))) (e.walk ++ (d.walk ++ joined (walks_in ds))) (e.walk ++ joined (walks_in (put d ds))) (blocks d.walk e.walk (joined (walks_in ds)))
-              (IsPermutation-append_right e.walk (d.walk ++ joined (walks_in ds)) (joined (walks_in (put d ds))) i.edges);
+          edges = IsPermutation-trans (d.walk ++ (e.walk ++ joined_walks (walks_in ds))) (e.walk ++ (d.walk ++ joined_walks (walks_in ds))) (e.walk ++ joined_walks (walks_in (put_in_order d ds))) (blocks d.walk e.walk (joined_walks (walks_in ds)))
+              (IsPermutation-append_right e.walk (d.walk ++ joined_walks (walks_in ds)) (joined_walks (walks_in (put_in_order d ds))) i.edges);
           rising = (λ g j. elim (i.there g j) [ inl k ↦ subst (λ z. IsListLess e.corners z.corners) k l | inr j ↦ r.0 g j ], i.rising);
         })
 
 -- the drawings of walks, in order
 record AreInOrder (ws : List (List Edge)) (ds : List Drawing) : Type 0 where
   pub draw : (d : Drawing) → Has ds d → Has ws d.walk × IsContour d.walk d.corners
-  pub edges : IsPermutation (joined ws) (joined (walks_in ds))
+  pub edges : IsPermutation (joined_walks ws) (joined_walks (walks_in ds))
   pub rising : Rising IsEarlier ds
 
-in_order_is : (es : List Edge) (ws : List (List Edge)) → AreGood es → AreApart es → ((w : List Edge) → Has ws w → IsWalk es w) → NoRepeats (joined ws) → AreInOrder ws (in_order ws)
-unfolding in_order Rising Has walks_in
+in_order_is : (es : List Edge) (ws : List (List Edge)) → AreGood es → AreApart es → ((w : List Edge) → Has ws w → IsWalk es w) → NoRepeats (joined_walks ws) → AreInOrder ws (in_corner_order ws)
+unfolding in_corner_order Rising Has walks_in
 in_order_is es [] g a i n = record { draw = λ d h. absurd h; edges = IsPermutation-refl []; rising = tt }
 in_order_is es (w ∷ ws) g a i n =
-    let r = in_order_is es ws g a (λ v h. i v (inr h)) (no_repeats_right w (joined ws) n) in
+    let r = in_order_is es ws g a (λ v h. i v (inr h)) (no_repeats_right w (joined_walks ws) n) in
     let d : Drawing = record { walk = w; corners = contour_of w } in
-    let p = put_is d (in_order ws) r.rising
+    let p = put_is d (in_corner_order ws) r.rising
     (λ e h k. (let v = r.draw e h in contours_differ es w e.walk e.corners g a (i w (inl refl)) (i e.walk (inr v.0)) (subst (IsContour w) k (contour_is w)) v.1
-    (λ x y z. no_repeats_apart w (joined ws) x n y (has_joined ws e.walk x v.0 z)))) in
+    (λ x y z. no_repeats_apart w (joined_walks ws) x n y (has_joined ws e.walk x v.0 z)))) in
     record {
       draw = λ e h. elim (p.there e h) [
         | inl k ↦ (inl (ap (λ z. z.walk) k), subst (λ z. IsContour z.walk z.corners) k (contour_is w))
         | inr h ↦ (let v = r.draw e h in (inr v.0, v.1))
       ];
-      edges = IsPermutation-trans (w ++ joined ws) (w ++ joined (walks_in (in_order ws))) (joined (walks_in (put d (in_order ws)))) (IsPermutation-append_right w (joined ws) (joined (walks_in (in_order ws))) r.edges) p.edges;
+      edges = IsPermutation-trans (w ++ joined_walks ws) (w ++ joined_walks (walks_in (in_corner_order ws))) (joined_walks (walks_in (put_in_order d (in_corner_order ws)))) (IsPermutation-append_right w (joined_walks ws) (joined_walks (walks_in (in_corner_order ws))) r.edges) p.edges;
       rising = p.rising;
     }
 
@@ -210,11 +210,11 @@ drawings_are es t a =
     let r = walks_are (length es) es es (tidy_next es t) (one_to_one es t a)
     (record { closed = λ e h. (let n = a e h in (n.0, near_next es e n.0 n.1, (n.1).one)); inside = λ e h. h; once = t.once }) (omega arith) in
     let ws = walks_of (length es) es es in
-    let n = no_repeats_permuted same_edge edge_test es (joined ws) (IsPermutation-sym (joined ws) es r.perm) t.once in
+    let n = no_repeats_permuted same_edge edge_test es (joined_walks ws) (IsPermutation-sym (joined_walks ws) es r.perm) t.once in
     let o = in_order_is es ws t.good (parted_apart es t.good t.parted) r.are n in
-    let ds = in_order ws in
+    let ds = in_corner_order ws in
     record {
-      once = IsPermutation-trans (joined (walks_in ds)) (joined ws) es (IsPermutation-sym (joined ws) (joined (walks_in ds)) o.edges) r.perm;
+      once = IsPermutation-trans (joined_walks (walks_in ds)) (joined_walks ws) es (IsPermutation-sym (joined_walks ws) (joined_walks (walks_in ds)) o.edges) r.perm;
       next = all_of (IsWalk es) (walks_in ds) (λ w h. (let d = walks_has ds w h in subst (IsWalk es) d.2 (r.are d.0.walk (o.draw d.0 d.1).0)));
       draw = zip_in ds (λ d h. (o.draw d h).1);
       order = rising_pairs ds o.rising;

@@ -3,16 +3,16 @@ use Rattle.std.proofs.Common.{◌≡◌, refl, sym, subst, ap, ◌∙◌, ℕ, �
 use Rattle.std.specs.Prelude.{ℤ, pos, ◌*ℤ◌, ◌<ℤ◌, ◌≤ℤ◌, Any}
 use Rattle.std.proofs.lemmas.Int.{ints, by_lt_z}
 use Rattle.plane.specs.Plane.{PlanePoint, grid_point}
-use Rattle.plane.proofs.Times.{mul_le, mul_lt, mul_lt_back, mul_le_back}
+use Rattle.grid_num.proofs.Products.{mul_le, mul_lt, mul_lt_back, mul_le_back}
 use Rattle.grid_num.specs.declared.Point.{Point}
-use Rattle.covering.specs.Covering.{Edge, IsOn}
-use Rattle.covering.proofs.Lists.{any_left}
-use Rattle.covering.proofs.On.{at, same_pos, on_level}
+use Rattle.plane.specs.Covering.{Edge, IsOn}
+use Rattle.plane.proofs.Lists.{any_left}
+use Rattle.plane.proofs.On.{at, same_pos, on_level}
 use Rattle.strips.specs.declared.Strip.{Strip}
 use Rattle.rings.specs.Turning.{direction, turn_to}
 use Rattle.rings.specs.Walks.{Visit, IsWalk}
 use Rattle.rings.specs.Slits.{IsSlit}
-use Rattle.rings.specs.Boundary.{left_edge, right_edge, side_edges, IsCorner, HasAbove, AreNeighbours, IsLevelPart, AreBoundary}
+use Rattle.rings.specs.Boundary.{left_edge, right_edge, side_edges, IsCorner, HasCopperAbove, AreNeighbours, IsLevelPart, AreBoundary}
 use Rattle.rings.proofs.Lists.{Has}
 use Rattle.rings.proofs.Order.{point_same}
 use Rattle.rings.proofs.Lines.{good_octilinear}
@@ -125,7 +125,7 @@ end_free ss es w h u s q p e o b k i c n y l r (Level (inl (m, f))) on =
     let fin : e.finish ≡ h = point_same e.finish h e1 (sym m.level ∙ row) in
     let cr = c.row in let cf = c.from in let ct = c.to in
     (f (left_of e.finish) (from_right ss e.start e.finish m)).1
-    (subst (λ z. HasAbove ss (left_of z)) (sym fin) (of_over ss (left_of h) s o (record { one = c.one; row = omega (arith, ints, cr); from = omega (arith, ints, cf); to = omega (arith, ints, ct) })))
+    (subst (λ z. HasCopperAbove ss (left_of z)) (sym fin) (of_over ss (left_of h) s o (record { one = c.one; row = omega (arith, ints, cr); from = omega (arith, ints, cf); to = omega (arith, ints, ct) })))
 end_free ss es w h u s q p e o b k i c n y l r (Level (inr (m, f))) on =
     let x = on.across in
     let rising = mul_lt p.scale e.finish.x e.start.x p.positive m.rising in

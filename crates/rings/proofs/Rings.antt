@@ -5,11 +5,11 @@ use Rattle.std.proofs.lemmas.Int.{ints}
 use Rattle.std.proofs.lemmas.List.Sorted.{IsPermutation-sym}
 use Rattle.plane.specs.Plane.{grid_point}
 use Rattle.grid_num.specs.declared.Point.{Point}
-use Rattle.covering.specs.Covering.{Edge, IsOn}
-use Rattle.covering.specs.Edges.{turned, both_ways}
-use Rattle.covering.proofs.Laws.{start_on}
+use Rattle.plane.specs.Covering.{Edge, IsOn}
+use Rattle.plane.specs.Edges.{turned_back, both_ways}
+use Rattle.plane.proofs.CoverLaws.{start_on}
 use Rattle.rings.specs.Turning.{direction}
-use Rattle.rings.specs.Walks.{IsWalk, joined, IsContour}
+use Rattle.rings.specs.Walks.{IsWalk, joined_walks, IsContour}
 use Rattle.rings.specs.Loops.{Loop, AreLoopsOf}
 use Rattle.rings.specs.Slits.{IsSlit, cut_by}
 use Rattle.rings.specs.Rings.{holes_of, with_slits, AreRingsOf}
@@ -61,7 +61,7 @@ slits_in es loops slits a z s h =
     }
 
 -- ---- there and back
-pub ways_cases : (ss : List Edge) (e : Edge) → Has (both_ways ss) e → (s : Edge) × Has ss s × ((e ≡ s) ⊎ (e ≡ turned s))
+pub ways_cases : (ss : List Edge) (e : Edge) → Has (both_ways ss) e → (s : Edge) × Has ss s × ((e ≡ s) ⊎ (e ≡ turned_back s))
 unfolding both_ways Has
 ways_cases [] e h = absurd h
 ways_cases (s ∷ ss) e (inl k) = (s, inl refl, inl (sym k))
@@ -71,7 +71,7 @@ ways_cases (s ∷ ss) e (inr (inr h)) = let r = ways_cases ss e h in (r.0, inr r
 abbrev goes_left : (es : List Edge) (s : Edge) → IsSlitIn es s → direction s ≡ 4
 goes_left es s i = slit_direction s (i.slit).level (i.slit).left
 
-abbrev comes_back : (es : List Edge) (s : Edge) → IsSlitIn es s → direction (turned s) ≡ 0
+abbrev comes_back : (es : List Edge) (s : Edge) → IsSlitIn es s → direction (turned_back s) ≡ 0
 comes_back es s i = back_direction s (i.slit).level (i.slit).left
 
 there_same : (es : List Edge) (s t : Edge) (q : Point) → IsSlitIn es s → IsSlitIn es t → IsAlong 4 s q → IsAlong 4 t q → s ≡ t
@@ -81,15 +81,15 @@ there_same es s t q i j a b =
     let bl = b.line in let b0 = b.from in let b1 = b.to in
     from_one es (i.corners) (j.corners) s t i.slit j.slit (meet es i.corners j.corners s t i.slit j.slit i.on j.on (sym al ∙ bl) (omega (arith, ints, a1, b0)) (omega (arith, ints, b1, a0)))
 
-back_same : (es : List Edge) (s t : Edge) (q : Point) → IsSlitIn es s → IsSlitIn es t → IsAlong 0 (turned s) q → IsAlong 0 (turned t) q → s ≡ t
-unfolding line along turned
+back_same : (es : List Edge) (s t : Edge) (q : Point) → IsSlitIn es s → IsSlitIn es t → IsAlong 0 (turned_back s) q → IsAlong 0 (turned_back t) q → s ≡ t
+unfolding line along turned_back
 back_same es s t q i j a b =
     let al = a.line in let a0 = a.from in let a1 = a.to in
     let bl = b.line in let b0 = b.from in let b1 = b.to in
     from_one es (i.corners) (j.corners) s t i.slit j.slit
     (meet es i.corners j.corners s t i.slit j.slit i.on j.on (sym (i.slit).level ∙ sym al ∙ bl ∙ (j.slit).level) (omega (arith, ints, a0, b1)) (omega (arith, ints, b0, a1)))
 
-ways_same : (es : List Edge) (s t e f : Edge) (q : Point) → IsSlitIn es s → IsSlitIn es t → (e ≡ s) ⊎ (e ≡ turned s) → (f ≡ t) ⊎ (f ≡ turned t)
+ways_same : (es : List Edge) (s t e f : Edge) (q : Point) → IsSlitIn es s → IsSlitIn es t → (e ≡ s) ⊎ (e ≡ turned_back s) → (f ≡ t) ⊎ (f ≡ turned_back t)
     → direction e ≡ direction f → OnHalf e q → OnHalf f q → e ≡ f
 ways_same es s t e f q i j (inl k) (inl l) d a b =
     k
@@ -99,7 +99,7 @@ ways_same es s t e f q i j (inl k) (inr l) d a b = absurd (let m = goes_left es 
 ways_same es s t e f q i j (inr k) (inl l) d a b = absurd (let m = comes_back es s i in let n = goes_left es t j in let x = ap direction k in let y = ap direction l in omega (arith, m, n, x, y, d))
 ways_same es s t e f q i j (inr k) (inr l) d a b =
     k
-    ∙ ap turned (back_same es s t q i j (subst (λ c. IsAlong c (turned s) q) (comes_back es s i) (subst (λ z. OnHalf z q) k a)) (subst (λ c. IsAlong c (turned t) q) (comes_back es t j) (subst (λ z. OnHalf z q) l b)))
+    ∙ ap turned_back (back_same es s t q i j (subst (λ c. IsAlong c (turned_back s) q) (comes_back es s i) (subst (λ z. OnHalf z q) k a)) (subst (λ c. IsAlong c (turned_back t) q) (comes_back es t j) (subst (λ z. OnHalf z q) l b)))
     ∙ sym l
 
 ways_parted : (es slits : List Edge) → AreSlitsIn es slits → AreParted (both_ways slits)
@@ -116,12 +116,12 @@ ways_good es slits i e h =
     let j = i s.0 s.1 in
     elim s.2 [
       | inl k ↦ subst IsGood (sym k) (subst (λ d. GoesOn d s.0) (sym (goes_left es s.0 j)) (slit_goes s.0 (j.slit).level (j.slit).left))
-      | inr k ↦ subst IsGood (sym k) (subst (λ d. GoesOn d (turned s.0)) (sym (comes_back es s.0 j)) (back_goes s.0 (j.slit).level (j.slit).left))
+      | inr k ↦ subst IsGood (sym k) (subst (λ d. GoesOn d (turned_back s.0)) (sym (comes_back es s.0 j)) (back_goes s.0 (j.slit).level (j.slit).left))
     ]
 
-turned_back : (s t : Edge) → turned s ≡ turned t → s ≡ t
-unfolding turned
-turned_back s t k = ap (λ e. record { start = e.finish; finish = e.start }) k
+turned_once : (s t : Edge) → turned_back s ≡ turned_back t → s ≡ t
+unfolding turned_back
+turned_once s t k = ap (λ e. record { start = e.finish; finish = e.start }) k
 
 slits_tail : (es : List Edge) (s : Edge) (slits : List Edge) → AreSlitsIn es (s ∷ slits) → AreSlitsIn es slits
 unfolding AreSlitsIn Has
@@ -139,9 +139,9 @@ ways_once es (s ∷ slits) i n = (
     ])
   ],
   (
-    λ h. (let t = ways_cases slits (turned s) h in elim t.2 [
+    λ h. (let t = ways_cases slits (turned_back s) h in elim t.2 [
       | inl k ↦ absurd (let a = comes_back es s (i s (inl refl)) in let b = goes_left es t.0 (i t.0 (inr t.1)) in let c = ap direction k in omega (arith, a, b, c))
-      | inr k ↦ n.0 (subst (Has slits) (sym (turned_back s t.0 k)) t.1)
+      | inr k ↦ n.0 (subst (Has slits) (sym (turned_once s t.0 k)) t.1)
     ]),
     ways_once es slits (slits_tail es s slits i) n.1,
   ),
@@ -176,13 +176,13 @@ drawn_apart : (es w v : List Edge) (l k : Loop) (h : Point) (cs bs : List Point)
 drawn_apart es w v l k h cs bs g a i j d e p q r s f =
     heads_apart es w v h cs bs g a i j (subst (IsContour w) r d.contour) (subst (IsContour v) s e.contour) ((d.hole).0 p) ((e.hole).0 q) f
 
-holes_apart : (es : List Edge) (ws : List (List Edge)) (ls : List Loop) → AreGood es → AreApart es → ((w : List Edge) → Has ws w → IsWalk es w) → NoRepeats (joined ws) → AllZip IsDrawn ws ls
+holes_apart : (es : List Edge) (ws : List (List Edge)) (ls : List Loop) → AreGood es → AreApart es → ((w : List Edge) → Has ws w → IsWalk es w) → NoRepeats (joined_walks ws) → AllZip IsDrawn ws ls
     → HeadsApart (holes_of ls)
 unfolding HeadsApart Has holes_of
 holes_apart es [] [] g a i n z = tt
 holes_apart es [] (l ∷ ls) g a i n z = absurd z
 holes_apart es (w ∷ ws) [] g a i n z = absurd z
-holes_apart es (w ∷ ws) (l ∷ ls) g a i n z = at (holes_apart es ws ls g a (λ v h. i v (inr h)) (no_repeats_right w (joined ws) n) z.1) l.hole refl
+holes_apart es (w ∷ ws) (l ∷ ls) g a i n z = at (holes_apart es ws ls g a (λ v h. i v (inr h)) (no_repeats_right w (joined_walks ws) n) z.1) l.hole refl
   where
     at : HeadsApart (holes_of ls) → (b : Bool) → l.hole ≡ b → HeadsApart (holes_of (l ∷ ls))
     at r false p = subst HeadsApart (sym (holes_no l ls p)) r
@@ -191,7 +191,7 @@ holes_apart es (w ∷ ws) (l ∷ ls) g a i n z = at (holes_apart es ws ls g a (�
           let m = hole_loop ls b k in
           let v = zip_right IsDrawn ws ls z.1 m.0 m.1 in
           drawn_apart es w v.0 l m.0 h as' bs g a (i w (inl refl)) (i v.0 (inr v.1)) z.0 v.2 p m.2 c (m.3 ∙ d)
-          (λ e x y. no_repeats_apart w (joined ws) e n x (has_joined ws v.0 e v.1 y))
+          (λ e x y. no_repeats_apart w (joined_walks ws) e n x (has_joined ws v.0 e v.1 y))
           ),
       r,
     )
@@ -200,7 +200,7 @@ loops_slits_once : (es : List Edge) (loops : List Loop) (slits : List Edge) → 
 loops_slits_once es loops slits g p n a z =
     slits_once es (holes_of loops) slits
     (holes_apart es a.walks loops g (parted_apart es g p) (λ w h. all_at (IsWalk es) a.walks w (a.contours).next h)
-    (no_repeats_permuted same_edge edge_test es (joined a.walks) (IsPermutation-sym (joined a.walks) es (a.contours).once) n) (drawn a.walks loops (a.contours).draw a.holes))
+    (no_repeats_permuted same_edge edge_test es (joined_walks a.walks) (IsPermutation-sym (joined_walks a.walks) es (a.contours).once) n) (drawn a.walks loops (a.contours).draw a.holes))
     z
 
 -- ---- all edges together
@@ -217,7 +217,7 @@ cross es slits g i e f q h k d a b =
       | inl l ↦ (let m : direction c ≡ 4 = sym o.same ∙ d ∙ ap direction l ∙ goes_left es s.0 j in
           left_free es j.corners s.0 c q j.slit o.one (subst (λ n. IsAlong n s.0 q) (goes_left es s.0 j) (subst (λ z. OnHalf z q) l b)) (subst (λ n. IsAlong n c q) m u) (subst (λ n. GoesOn n c) m v))
       | inr l ↦ (let m : direction c ≡ 0 = sym o.same ∙ d ∙ ap direction l ∙ comes_back es s.0 j in
-          right_free es j.corners s.0 c q j.slit o.one (subst (λ n. IsAlong n (turned s.0) q) (comes_back es s.0 j) (subst (λ z. OnHalf z q) l b)) (subst (λ n. IsAlong n c q) m u) (subst (λ n. GoesOn n c) m v))
+          right_free es j.corners s.0 c q j.slit o.one (subst (λ n. IsAlong n (turned_back s.0) q) (comes_back es s.0 j) (subst (λ z. OnHalf z q) l b)) (subst (λ n. IsAlong n c q) m u) (subst (λ n. GoesOn n c) m v))
     ]
 
 parted_append : (xs ys : List Edge) → AreParted xs → AreParted ys → ((e f : Edge) (q : Point) → Has xs e → Has ys f → direction e ≡ direction f → OnHalf e q → OnHalf f q → ⊥) → AreParted (xs ++ ys)

@@ -3,13 +3,13 @@ use Rattle.std.proofs.Common.{◌≡◌, refl, sym, subst, ap, ◌∙◌, ◌⊎
 use Rattle.std.specs.Prelude.{ℤ, pos, ◌*ℤ◌, ◌<ℤ◌, ◌≤ℤ◌, ◌↔◌}
 use Rattle.std.proofs.lemmas.Int.{ints, by_lt_z}
 use Rattle.plane.specs.Plane.{PlanePoint}
-use Rattle.plane.proofs.Times.{mul_lt, mul_lt_back}
+use Rattle.grid_num.proofs.Products.{mul_lt, mul_lt_back}
 use Rattle.grid_num.specs.declared.Point.{Point}
-use Rattle.covering.specs.Covering.{Edge}
+use Rattle.plane.specs.Covering.{Edge}
 use Rattle.strips.specs.declared.Strip.{Strip}
 use Rattle.strips.specs.Strips.{IsInStrip, IsTrapezoid}
 use Rattle.strips.proofs.Slab.{IsRun, strip_between, between_strip, sides}
-use Rattle.rings.specs.Boundary.{left_edge, right_edge, side_edges, IsCorner, HasAbove, HasBelow, AreNeighbours}
+use Rattle.rings.specs.Boundary.{left_edge, right_edge, side_edges, IsCorner, HasCopperAbove, HasCopperBelow, AreNeighbours}
 use Rattle.rings.proofs.Lists.{Has}
 use Rattle.rings.proofs.Slits.{has_any, any_has}
 use Rattle.rings.proofs.Sides.{AreOrdered}
@@ -55,26 +55,26 @@ pub record IsOver (ss : List Strip) (p : PlanePoint) (s : Strip) : Type 0 where
   pub from : (pos p.scale *ℤ s.left_end) ≤ℤ p.x
   pub to : p.x ≤ℤ (pos p.scale *ℤ s.right_end)
 
-pub under_of : (ss : List Strip) (p : PlanePoint) → AreOrdered ss → HasBelow ss p → (s : Strip) × IsUnder ss p s
-unfolding HasBelow
+pub under_of : (ss : List Strip) (p : PlanePoint) → AreOrdered ss → HasCopperBelow ss p → (s : Strip) × IsUnder ss p s
+unfolding HasCopperBelow
 under_of ss p o h =
     let r = any_has (λ s. IsInStrip s p × (p.y ≡ pos p.scale *ℤ s.top)) ss h in
     let i = (top_in r.0 p (o.shape r.0 r.1) (r.2).1).0 (r.2).0 in
     (r.0, record { one = r.1; row = (r.2).1; from = i.0; to = i.1 })
 
-pub of_under : (ss : List Strip) (p : PlanePoint) (s : Strip) → AreOrdered ss → IsUnder ss p s → HasBelow ss p
-unfolding HasBelow
+pub of_under : (ss : List Strip) (p : PlanePoint) (s : Strip) → AreOrdered ss → IsUnder ss p s → HasCopperBelow ss p
+unfolding HasCopperBelow
 of_under ss p s o u = has_any (λ s. IsInStrip s p × (p.y ≡ pos p.scale *ℤ s.top)) ss s u.one ((top_in s p (o.shape s u.one) u.row).1 (u.from, u.to), u.row)
 
-pub over_of : (ss : List Strip) (p : PlanePoint) → AreOrdered ss → HasAbove ss p → (s : Strip) × IsOver ss p s
-unfolding HasAbove
+pub over_of : (ss : List Strip) (p : PlanePoint) → AreOrdered ss → HasCopperAbove ss p → (s : Strip) × IsOver ss p s
+unfolding HasCopperAbove
 over_of ss p o h =
     let r = any_has (λ s. IsInStrip s p × (p.y ≡ pos p.scale *ℤ s.bottom)) ss h in
     let i = (bottom_in r.0 p (o.shape r.0 r.1) (r.2).1).0 (r.2).0 in
     (r.0, record { one = r.1; row = (r.2).1; from = i.0; to = i.1 })
 
-pub of_over : (ss : List Strip) (p : PlanePoint) (s : Strip) → AreOrdered ss → IsOver ss p s → HasAbove ss p
-unfolding HasAbove
+pub of_over : (ss : List Strip) (p : PlanePoint) (s : Strip) → AreOrdered ss → IsOver ss p s → HasCopperAbove ss p
+unfolding HasCopperAbove
 of_over ss p s o u = has_any (λ s. IsInStrip s p × (p.y ≡ pos p.scale *ℤ s.bottom)) ss s u.one ((bottom_in s p (o.shape s u.one) u.row).1 (u.from, u.to), u.row)
 
 -- ---- corners

@@ -4,7 +4,7 @@ use Rattle.std.specs.Prelude.{◌-ℤ◌, ◌<ℤ◌, ◌≤ℤ◌}
 use Rattle.std.proofs.lemmas.Int.{ints}
 use Rattle.grid_num.specs.declared.Point.{Point}
 use Rattle.strips.specs.declared.Strip.{Strip}
-use Rattle.strips.specs.Strips.{IsTrapezoid, IsSloped, IsApart, IsBefore}
+use Rattle.strips.specs.Strips.{IsTrapezoid, IsSloped, AreApartInSlab, IsStripBefore}
 use Rattle.rings.specs.Turning.{direction}
 use Rattle.rings.specs.Boundary.{left_edge, right_edge}
 use Rattle.rings.proofs.Lists.{Has, Rising}
@@ -16,20 +16,20 @@ use Rattle.rings.proofs.Unique.{edge_same}
 -- what is used of the strips of octagons: trapezoids, in order
 pub record AreOrdered (ss : List Strip) : Type 0 where
   pub shape : (s : Strip) → Has ss s → IsTrapezoid s
-  pub order : Rising IsBefore ss
+  pub order : Rising IsStripBefore ss
 
 -- two strips whose rows overlap are between the same two rows, and are one or apart
 pub record AreBeside (s t : Strip) : Type 0 where
   pub top : s.top ≡ t.top
   pub bottom : s.bottom ≡ t.bottom
-  pub are : (s ≡ t) ⊎ (IsApart s t ⊎ IsApart t s)
+  pub are : (s ≡ t) ⊎ (AreApartInSlab s t ⊎ AreApartInSlab t s)
 
-pair_cases : (ss : List Strip) → Rising IsBefore ss → (s t : Strip) → Has ss s → Has ss t → (s ≡ t) ⊎ (IsBefore s t ⊎ IsBefore t s)
+pair_cases : (ss : List Strip) → Rising IsStripBefore ss → (s t : Strip) → Has ss s → Has ss t → (s ≡ t) ⊎ (IsStripBefore s t ⊎ IsStripBefore t s)
 unfolding Rising Has
 pair_cases [] r s t h i = absurd h
 pair_cases (x ∷ xs) r s t (inl e) (inl f) = inl (sym e ∙ f)
-pair_cases (x ∷ xs) r s t (inl e) (inr i) = inr (inl (subst (λ z. IsBefore z t) e (r.0 t i)))
-pair_cases (x ∷ xs) r s t (inr h) (inl f) = inr (inr (subst (λ z. IsBefore z s) f (r.0 s h)))
+pair_cases (x ∷ xs) r s t (inl e) (inr i) = inr (inl (subst (λ z. IsStripBefore z t) e (r.0 t i)))
+pair_cases (x ∷ xs) r s t (inr h) (inl f) = inr (inr (subst (λ z. IsStripBefore z s) f (r.0 s h)))
 pair_cases (x ∷ xs) r s t (inr h) (inr i) = pair_cases xs r.1 s t h i
 
 pub beside : (ss : List Strip) → AreOrdered ss → (s t : Strip) → Has ss s → Has ss t → s.top <ℤ t.bottom → t.top <ℤ s.bottom → AreBeside s t

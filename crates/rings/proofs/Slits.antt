@@ -5,10 +5,10 @@ use Rattle.std.specs.List.{AllZip}
 use Rattle.std.proofs.lemmas.Int.{ints, by_lt_z}
 use Rattle.plane.specs.Plane.{PlanePoint, grid_point}
 use Rattle.grid_num.specs.declared.Point.{Point}
-use Rattle.covering.specs.Covering.{Edge, IsOn}
-use Rattle.covering.specs.Edges.{turned}
-use Rattle.covering.proofs.Lists.{any_none, any_head, any_tail, any_cases}
-use Rattle.covering.proofs.On.{level_on}
+use Rattle.plane.specs.Covering.{Edge, IsOn}
+use Rattle.plane.specs.Edges.{turned_back}
+use Rattle.plane.proofs.Lists.{any_none, any_head, any_tail, any_cases}
+use Rattle.plane.proofs.On.{level_on}
 use Rattle.rings.specs.Turning.{direction}
 use Rattle.rings.specs.Slits.{IsSlit}
 use Rattle.rings.proofs.Lists.{Has}
@@ -42,15 +42,15 @@ pub slit_goes : (s : Edge) → s.finish.y ≡ s.start.y → s.finish.x <ℤ s.st
 unfolding line along
 slit_goes s k l = record { line = k; on = omega (arith, ints, l) }
 
-pub back_goes : (s : Edge) → s.finish.y ≡ s.start.y → s.finish.x <ℤ s.start.x → GoesOn 0 (turned s)
-unfolding line along turned
+pub back_goes : (s : Edge) → s.finish.y ≡ s.start.y → s.finish.x <ℤ s.start.x → GoesOn 0 (turned_back s)
+unfolding line along turned_back
 back_goes s k l = record { line = sym k; on = l }
 
 pub slit_direction : (s : Edge) → s.finish.y ≡ s.start.y → s.finish.x <ℤ s.start.x → direction s ≡ 4
 slit_direction s k l = direction_is 4 (omega arith) s (slit_goes s k l)
 
-pub back_direction : (s : Edge) → s.finish.y ≡ s.start.y → s.finish.x <ℤ s.start.x → direction (turned s) ≡ 0
-back_direction s k l = direction_is 0 (omega arith) (turned s) (back_goes s k l)
+pub back_direction : (s : Edge) → s.finish.y ≡ s.start.y → s.finish.x <ℤ s.start.x → direction (turned_back s) ≡ 0
+back_direction s k l = direction_is 0 (omega arith) (turned_back s) (back_goes s k l)
 
 -- ---- one slit of a loop
 -- no boundary point is inside a slit
@@ -125,8 +125,8 @@ left_free es cs s e q i h a b g =
     (level_on e (half q.x (neg_ℤ (pos 1)) q.y) (sym gl) (omega (arith, ints, el)) (inr (omega (arith, ints, e1), omega (arith, ints, e0)))))
 
 -- nor do its way back and an edge that goes to the right
-pub right_free : (es : List Edge) (cs : List Point) (s e : Edge) (q : Point) → IsSlit es cs s → Has es e → IsAlong 0 (turned s) q → IsAlong 0 e q → GoesOn 0 e → ⊥
-unfolding line along half turned
+pub right_free : (es : List Edge) (cs : List Point) (s e : Edge) (q : Point) → IsSlit es cs s → Has es e → IsAlong 0 (turned_back s) q → IsAlong 0 e q → GoesOn 0 e → ⊥
+unfolding line along half turned_back
 right_free es cs s e q i h a b g =
     let sl = a.line in let s0 = a.from in let s1 = a.to in
     let el = b.line in let e0 = b.from in let e1 = b.to in

@@ -5,16 +5,16 @@ use Rattle.std.specs.List.{AllZip}
 use Rattle.std.proofs.lemmas.Int.{ints, by_lt_z}
 use Rattle.std.proofs.lemmas.Bool.{cases_order, cases_eq}
 use Rattle.plane.specs.Plane.{grid_point}
-use Rattle.covering.proofs.Laws.{start_on}
+use Rattle.plane.proofs.CoverLaws.{start_on}
 use Rattle.grid_num.specs.declared.Point.{Point}
-use Rattle.covering.specs.Covering.{Edge, IsOn}
-use Rattle.covering.specs.Edges.{turned, both_ways}
-use Rattle.covering.proofs.On.{level_on}
+use Rattle.plane.specs.Covering.{Edge, IsOn}
+use Rattle.plane.specs.Edges.{turned_back, both_ways}
+use Rattle.plane.proofs.On.{level_on}
 use Rattle.strips.specs.declared.Strip.{Strip}
 use Rattle.rings.specs.Turning.{direction, turn_to}
 use Rattle.rings.specs.Walks.{Visit, IsWalk, IsContour}
 use Rattle.rings.specs.Loops.{Loop, IsHole, AreLoopsOf}
-use Rattle.rings.specs.Slits.{IsSlit, is_inside, cut_at, cut_by}
+use Rattle.rings.specs.Slits.{IsSlit, is_inside_edge, cut_edges, cut_by}
 use Rattle.rings.specs.Rings.{holes_of, with_slits, AreRingsOf}
 use Rattle.rings.specs.Boundary.{left_edge, right_edge, side_edges, IsCorner, IsLevelPart, AreBoundary}
 use Rattle.rings.proofs.Lists.{Has, has_of, has_head, has_left, has_right, has_parts, all_at, zip_right, found}
@@ -84,14 +84,14 @@ bool_cases : (b : Bool) → (b ≡ true) ⊎ (b ≡ false)
 bool_cases true = inl refl
 bool_cases false = inr refl
 
-not_cut : (q : Point) (es : List Edge) → ((e : Edge) → Has es e → is_inside e q ≡ false) → cut_at q es ≡ es
-unfolding cut_at Has
+not_cut : (q : Point) (es : List Edge) → ((e : Edge) → Has es e → is_inside_edge e q ≡ false) → cut_edges q es ≡ es
+unfolding cut_edges Has
 not_cut q [] f = refl
-not_cut q (e ∷ es) f = ap (λ zs. zs ++ cut_at q es) (cut_false q e (f e (inl refl))) ∙ ap (λ zs. e ∷ zs) (not_cut q es (λ g h. f g (inr h)))
+not_cut q (e ∷ es) f = ap (λ zs. zs ++ cut_edges q es) (cut_false q e (f e (inl refl))) ∙ ap (λ zs. e ∷ zs) (not_cut q es (λ g h. f g (inr h)))
 
-outside : (ss : List Strip) (es : List Edge) (q : Point) → AreOrdered ss → AreBoundary ss es → IsCorner ss q → (e : Edge) → Has es e → is_inside e q ≡ false
+outside : (ss : List Strip) (es : List Edge) (q : Point) → AreOrdered ss → AreBoundary ss es → IsCorner ss q → (e : Edge) → Has es e → is_inside_edge e q ≡ false
 unfolding AreGood
-outside ss es q o b i e h = elim (bool_cases (is_inside e q)) [
+outside ss es q o b i e h = elim (bool_cases (is_inside_edge e q)) [
   | inl t ↦ absurd (none_within ss e q o i (is_bound ss es b e h) (inside_within e q (boundary_good ss es o b e h) t))
   | inr f ↦ f
 ]
@@ -195,10 +195,10 @@ way_cases slits v j = elim (found (IsSlitWay v j) (λ s. either_cases
       | inr f ↦ inr (λ h. f h.slit h.one h.is)
     ]
 
-ways_has : (slits : List Edge) (s : Edge) → Has slits s → Has (both_ways slits) s × Has (both_ways slits) (turned s)
+ways_has : (slits : List Edge) (s : Edge) → Has slits s → Has (both_ways slits) s × Has (both_ways slits) (turned_back s)
 unfolding both_ways Has
 ways_has [] s h = absurd h
-ways_has (t ∷ slits) s (inl k) = (inl k, inr (inl (ap turned k)))
+ways_has (t ∷ slits) s (inl k) = (inl k, inr (inl (ap turned_back k)))
 ways_has (t ∷ slits) s (inr h) = let r = ways_has slits s h in (inr (inr r.0), inr (inr r.1))
 
 -- the edge that goes out there
@@ -212,7 +212,7 @@ unfoldable pub AllSlits : List Strip → List Edge → Type 0
 AllSlits ss slits = (s : Edge) → Has slits s → HasSlitCopper ss s
 
 way_out : (ss : List Strip) (slits : List Edge) (v : Point) (j : ℕ) → AllSlits ss slits → HasSlitWay slits v j → IsWayOut slits v j
-unfolding IsSlitWay AllSlits turned
+unfolding IsSlitWay AllSlits turned_back
 way_out ss slits v j a h = at h.is
   where
     c : HasSlitCopper ss h.slit
@@ -220,7 +220,7 @@ way_out ss slits v j a h = at h.is
 
     at : IsSlitWay v j h.slit → IsWayOut slits v j
     at (inl (x, (y, e))) = record { edge = h.slit; one = (ways_has slits h.slit h.one).0; start = point_same h.slit.start v x y; way = slit_direction h.slit c.level c.left ∙ sym e }
-    at (inr (x, (y, e))) = record { edge = turned h.slit; one = (ways_has slits h.slit h.one).1; start = point_same h.slit.finish v x y; way = back_direction h.slit c.level c.left ∙ sym e }
+    at (inr (x, (y, e))) = record { edge = turned_back h.slit; one = (ways_has slits h.slit h.one).1; start = point_same h.slit.finish v x y; way = back_direction h.slit c.level c.left ∙ sym e }
 
 way_copper : (ss : List Strip) (slits : List Edge) (v : Point) (j : ℕ) → AllSlits ss slits → HasSlitWay slits v j → HasCopper ss v j
 unfolding IsSlitWay AllSlits
@@ -235,7 +235,7 @@ way_copper ss slits v j a h = at h.is
 
 -- an edge of a slit goes out, or comes in, in such a direction
 slit_goes_way : (ss : List Strip) (slits : List Edge) (e : Edge) → AllSlits ss slits → Has (both_ways slits) e → HasSlitWay slits e.start (direction e)
-unfolding IsSlitWay AllSlits turned
+unfolding IsSlitWay AllSlits turned_back
 slit_goes_way ss slits e a h =
     let s = ways_cases slits e h in
     let c = a s.0 s.1 in
@@ -249,7 +249,7 @@ slit_goes_way ss slits e a h =
     }
 
 slit_comes_way : (ss : List Strip) (slits : List Edge) (e : Edge) → AllSlits ss slits → Has (both_ways slits) e → HasSlitWay slits e.finish ((direction e + 4) % 8)
-unfolding IsSlitWay AllSlits turned
+unfolding IsSlitWay AllSlits turned_back
 slit_comes_way ss slits e a h =
     let s = ways_cases slits e h in
     let c = a s.0 s.1 in

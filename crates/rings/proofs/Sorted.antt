@@ -7,8 +7,8 @@ use Rattle.std.proofs.lemmas.List.{append_assoc}
 use Rattle.std.proofs.lemmas.List.Kept.{AllPairs-cons}
 use Rattle.std.proofs.lemmas.List.Sorted.{IsPermutation-refl, IsPermutation-cons, IsPermutation-trans, IsPermutation-sym, IsPermutation-insert, IsPermutation-append_right, IsPermutation-append_left, IsPermutation-append_comm}
 use Rattle.grid_num.specs.declared.Point.{Point}
-use Rattle.covering.specs.Covering.{Edge}
-use Rattle.rings.specs.Walks.{IsWalk, IsListLess, IsContour, joined, AreContours}
+use Rattle.plane.specs.Covering.{Edge}
+use Rattle.rings.specs.Walks.{IsWalk, IsListLess, IsContour, joined_walks, AreContours}
 use Rattle.rings.specs.Loops.{Loop, IsHole, AreLoopsOf}
 use Rattle.rings.proofs.Lists.{Has, has_permuted, all_of, NoRepeats, no_repeats_right, no_repeats_apart, no_repeats_permuted, Rising}
 use Rattle.rings.proofs.Order.{list_cases, list_order}
@@ -42,7 +42,7 @@ blocks p q js =
 record IsInserted (d : Drawn) (ds : List Drawn) : Type 0 where
   list : List Drawn
   perm : IsPermutation (d ∷ ds) list
-  edges : IsPermutation (joined (walks_of (d ∷ ds))) (joined (walks_of list))
+  edges : IsPermutation (joined_walks (walks_of (d ∷ ds))) (joined_walks (walks_of list))
   rising : Rising IsEarlier list
 
 inserted : (d : Drawn) (ds : List Drawn) → Rising IsEarlier ds → ((e : Drawn) → Has ds e → d.corners ≡ e.corners → ⊥) → IsInserted d ds
@@ -52,7 +52,7 @@ inserted d (e ∷ ds) r f = elim (list_cases d.corners e.corners) [
   | inl l ↦ record {
     list = d ∷ e ∷ ds;
     perm = IsPermutation-refl (d ∷ e ∷ ds);
-    edges = IsPermutation-refl (joined (walks_of (d ∷ e ∷ ds)));
+    edges = IsPermutation-refl (joined_walks (walks_of (d ∷ e ∷ ds)));
     rising = (λ g h. elim h [ inl k ↦ subst (λ z. IsListLess d.corners z.corners) k l | inr h ↦ list_order.on d.corners e.corners g.corners l (r.0 g h) ], r);
   }
   | inr o ↦ elim o [
@@ -60,8 +60,8 @@ inserted d (e ∷ ds) r f = elim (list_cases d.corners e.corners) [
     | inr l ↦ (let i = inserted d ds r.1 (λ g h. f g (inr h)) in record {
       list = e ∷ i.list;
       perm = IsPermutation-trans (d ∷ e ∷ ds) (e ∷ d ∷ ds) (e ∷ i.list) (IsPermutation-insert (e ∷ ds) 1 d) (IsPermutation-cons e (d ∷ ds) i.list i.perm);
-      edges = IsPermutation-trans (d.walk ++ (e.walk ++ joined (walks_of ds))) (e.walk ++ (d.walk ++ joined (walks_of ds))) (e.walk ++ joined (walks_of i.list)) (blocks d.walk e.walk (joined (walks_of ds)))
-          (IsPermutation-append_right e.walk (d.walk ++ joined (walks_of ds)) (joined (walks_of i.list)) i.edges);
+      edges = IsPermutation-trans (d.walk ++ (e.walk ++ joined_walks (walks_of ds))) (e.walk ++ (d.walk ++ joined_walks (walks_of ds))) (e.walk ++ joined_walks (walks_of i.list)) (blocks d.walk e.walk (joined_walks (walks_of ds)))
+          (IsPermutation-append_right e.walk (d.walk ++ joined_walks (walks_of ds)) (joined_walks (walks_of i.list)) i.edges);
       rising = (λ g h. elim (has_permuted i.list (d ∷ ds) g (IsPermutation-sym (d ∷ ds) i.list i.perm) h) [ inl k ↦ subst (λ z. IsListLess e.corners z.corners) k l | inr h ↦ r.0 g h ], i.rising);
     })
   ]
@@ -75,7 +75,7 @@ NoTwins (d ∷ ds) = ((e : Drawn) → Has ds e → d.corners ≡ e.corners → �
 record IsSorted (ds : List Drawn) : Type 0 where
   list : List Drawn
   perm : IsPermutation ds list
-  edges : IsPermutation (joined (walks_of ds)) (joined (walks_of list))
+  edges : IsPermutation (joined_walks (walks_of ds)) (joined_walks (walks_of list))
   rising : Rising IsEarlier list
 
 sorted : (ds : List Drawn) → NoTwins ds → IsSorted ds
@@ -87,8 +87,8 @@ sorted (d ∷ ds) n =
     record {
       list = i.list;
       perm = IsPermutation-trans (d ∷ ds) (d ∷ s.list) i.list (IsPermutation-cons d ds s.list s.perm) i.perm;
-      edges = IsPermutation-trans (d.walk ++ joined (walks_of ds)) (d.walk ++ joined (walks_of s.list)) (joined (walks_of i.list))
-          (IsPermutation-append_right d.walk (joined (walks_of ds)) (joined (walks_of s.list)) s.edges) i.edges;
+      edges = IsPermutation-trans (d.walk ++ joined_walks (walks_of ds)) (d.walk ++ joined_walks (walks_of s.list)) (joined_walks (walks_of i.list))
+          (IsPermutation-append_right d.walk (joined_walks (walks_of ds)) (joined_walks (walks_of s.list)) s.edges) i.edges;
       rising = i.rising;
     }
 
@@ -108,13 +108,13 @@ has_walk [] d h = h
 has_walk (e ∷ ds) d (inl k) = inl (ap (λ z. z.walk) k)
 has_walk (e ∷ ds) d (inr h) = inr (has_walk ds d h)
 
-no_twins : (es : List Edge) (ds : List Drawn) → AreGood es → AreApart es → ((w : List Edge) → Has (walks_of ds) w → IsWalk es w) → NoRepeats (joined (walks_of ds)) → NoTwins ds
+no_twins : (es : List Edge) (ds : List Drawn) → AreGood es → AreApart es → ((w : List Edge) → Has (walks_of ds) w → IsWalk es w) → NoRepeats (joined_walks (walks_of ds)) → NoTwins ds
 unfolding NoTwins walks_of Has
 no_twins es [] g a i n = tt
 no_twins es (d ∷ ds) g a i n = (
   λ e h k. contours_differ es d.walk e.walk e.corners g a (i d.walk (inl refl)) (i e.walk (inr (has_walk ds e h))) (subst (IsContour d.walk) k d.contour) e.contour
-      (λ x p q. no_repeats_apart d.walk (joined (walks_of ds)) x n p (has_joined (walks_of ds) e.walk x (has_walk ds e h) q)),
-  no_twins es ds g a (λ w h. i w (inr h)) (no_repeats_right d.walk (joined (walks_of ds)) n),
+      (λ x p q. no_repeats_apart d.walk (joined_walks (walks_of ds)) x n p (has_joined (walks_of ds) e.walk x (has_walk ds e h) q)),
+  no_twins es ds g a (λ w h. i w (inr h)) (no_repeats_right d.walk (joined_walks (walks_of ds)) n),
 )
 
 corners_of : List Drawn → List (List Point)
@@ -157,15 +157,15 @@ are_drawn es t a =
     let o = orbits es t.once (λ e h. (let n = a e h in (n.0, near_next es e n.0 n.1))) (one_to_one es t a) in
     let ds = drawn_all o.walks in
     let same = drawn_walks o.walks in
-    let perm : IsPermutation (joined (walks_of ds)) es = subst (λ ws. IsPermutation (joined ws) es) (sym same) o.perm in
+    let perm : IsPermutation (joined_walks (walks_of ds)) es = subst (λ ws. IsPermutation (joined_walks ws) es) (sym same) o.perm in
     let walk : (w : List Edge) → Has (walks_of ds) w → IsWalk es w = λ w h. o.are w (subst (λ ws. Has ws w) same h) in
-    let n = no_repeats_permuted same_edge edge_test es (joined (walks_of ds)) (IsPermutation-sym (joined (walks_of ds)) es perm) t.once in
+    let n = no_repeats_permuted same_edge edge_test es (joined_walks (walks_of ds)) (IsPermutation-sym (joined_walks (walks_of ds)) es perm) t.once in
     let s = sorted ds (no_twins es ds t.good (parted_apart es t.good t.parted) walk n) in
     record {
       walks = walks_of s.list;
       corners = corners_of s.list;
       are = record {
-        once = IsPermutation-trans (joined (walks_of s.list)) (joined (walks_of ds)) es (IsPermutation-sym (joined (walks_of ds)) (joined (walks_of s.list)) s.edges) perm;
+        once = IsPermutation-trans (joined_walks (walks_of s.list)) (joined_walks (walks_of ds)) es (IsPermutation-sym (joined_walks (walks_of ds)) (joined_walks (walks_of s.list)) s.edges) perm;
         next = all_of (IsWalk es) (walks_of s.list) (λ w h. (let d = walk_has_of s.list w h in
             walk w (subst (Has (walks_of ds)) d.2 (has_walk ds d.0 (has_permuted s.list ds d.0 (IsPermutation-sym ds s.list s.perm) d.1)))));
         draw = zip_drawn s.list;

@@ -9,10 +9,10 @@ use Rattle.std.proofs.lemmas.Bool.Decides.{Decides-int_eq}
 use Rattle.std.proofs.lemmas.List.{length-append}
 use Rattle.std.proofs.lemmas.List.Sorted.{IsPermutation-refl, IsPermutation-cons, IsPermutation-trans, IsPermutation-sym, IsPermutation-append_right, length_permutation}
 use Rattle.grid_num.specs.declared.Point.{Point}
-use Rattle.covering.specs.Covering.{Edge}
-use Rattle.rings.specs.Turning.{direction, turn_to, IsNext}
-use Rattle.rings.specs.Walks.{IsWalk, joined}
-use Rattle.rings.specs.Tracing.{is_same_point, is_same_edge, is_one_of, Best, better, best_of, next_of, follow, walk_of, walks_of}
+use Rattle.plane.specs.Covering.{Edge}
+use Rattle.rings.specs.Turning.{direction, turn_to, IsNextEdge}
+use Rattle.rings.specs.Walks.{IsWalk, joined_walks}
+use Rattle.rings.specs.Inner.Tracing.{is_same_point, is_same_edge, is_one_of, Best, better, best_of, next_of, follow, walk_of, walks_of}
 use Rattle.rings.proofs.Lists.{Has, has_of, of_has, has_left, has_right, has_parts, has_split, has_permuted, NoRepeats, no_repeats_left, no_repeats_apart, no_repeats_permuted}
 use Rattle.rings.proofs.Order.{point_same}
 use Rattle.rings.proofs.Unique.{AreSame, edge_same, and_both, edge_test, same_edge}
@@ -134,7 +134,7 @@ turn_low : (e : Edge) (d : ℕ) → turn_to e d ≤ 8
 unfolding turn_to
 turn_low e d = omega arith
 
-pub next_is : (es : List Edge) (e f : Edge) → IsNext es e f → IsNext es e (next_of es e)
+pub next_is : (es : List Edge) (e f : Edge) → IsNextEdge es e f → IsNextEdge es e (next_of es e)
 unfolding next_of Has
 next_is es e f n =
     let b : Best = record { turn = 9; edge = e } in
@@ -150,7 +150,7 @@ next_is es e f n =
       }
     ]
 
-next_same : (es : List Edge) (e f : Edge) → HasOneNext es → IsNext es e f → next_of es e ≡ f
+next_same : (es : List Edge) (e f : Edge) → HasOneNext es → IsNextEdge es e f → next_of es e ≡ f
 unfolding HasOneNext
 next_same es e f o n = o e (next_of es e) f (next_is es e f n) n
 
@@ -269,7 +269,7 @@ fewer (x ∷ xs) ys n f = at (has_split ys x (f x (inl refl))) (λ us vs g. fewe
 
 -- the program's walks
 pub record AreWalked (es all : List Edge) (walks : List (List Edge)) : Type 0 where
-  pub perm : IsPermutation (joined walks) all
+  pub perm : IsPermutation (joined_walks walks) all
   pub are : (w : List Edge) → Has walks w → IsWalk es w
 
 step : (es : List Edge) (a : Edge) (left : List Edge) (k : ℕ) (bs rest : List Edge) → walk_of es a ≡ a ∷ bs → NoRepeats (a ∷ bs) → LeadsTo es a a bs → IsPermutation (a ∷ bs ++ rest) (a ∷ left) → NoRepeats (a ∷ left)
@@ -286,7 +286,7 @@ step es a left k bs rest is nw l p n s q t f =
     let len3 = length-append bs rest in
     let r = f (pool_same es rest (left_over w left) s once q) (omega (arith, len, len2, len3, t)) in
     subst (λ z. AreWalked es (a ∷ left) (z ∷ walks_of k es (left_over z left))) (sym is) (record {
-      perm = IsPermutation-trans (w ++ joined (walks_of k es (left_over w left))) (w ++ left_over w left) (a ∷ left) (IsPermutation-append_right w (joined (walks_of k es (left_over w left))) (left_over w left) r.perm)
+      perm = IsPermutation-trans (w ++ joined_walks (walks_of k es (left_over w left))) (w ++ left_over w left) (a ∷ left) (IsPermutation-append_right w (joined_walks (walks_of k es (left_over w left))) (left_over w left) r.perm)
           (IsPermutation-trans (w ++ left_over w left) (w ++ rest) (a ∷ left) (IsPermutation-append_right w (left_over w left) rest (IsPermutation-sym rest (left_over w left) perm)) p);
       are = λ v h. elim h [ inl e ↦ subst (IsWalk es) e (orbit_walk es a bs l) | inr h ↦ r.are v h ];
     })

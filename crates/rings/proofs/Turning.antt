@@ -1,6 +1,6 @@
 -- Directions are below eight, and turning tells them apart.
 use Rattle.std.proofs.Common.{◌≡◌, sym, ◌∙◌, ℕ, ◌<◌, arith, List}
-use Rattle.covering.specs.Covering.{Edge}
+use Rattle.plane.specs.Covering.{Edge}
 use Rattle.rings.specs.Turning.{direction, turn_to}
 use Rattle.rings.proofs.Lists.{Has, has_of}
 use Rattle.rings.proofs.Lines.{direction_low}

@@ -8,9 +8,9 @@ use Rattle.std.proofs.lemmas.List.Sorted.{IsPermutation-sym}
 use Rattle.std.proofs.lemmas.Bool.Decides.{Decides-int_eq}
 use Rattle.std.proofs.lemmas.Bool.{false≢true}
 use Rattle.grid_num.specs.declared.Point.{Point}
-use Rattle.covering.specs.Covering.{Edge}
-use Rattle.rings.specs.Turning.{IsNext}
-use Rattle.rings.specs.Walks.{IsWalk, IsSameRound, IsListLess, IsContour, joined, AreContours}
+use Rattle.plane.specs.Covering.{Edge}
+use Rattle.rings.specs.Turning.{IsNextEdge}
+use Rattle.rings.specs.Walks.{IsWalk, IsSameRound, IsListLess, IsContour, joined_walks, AreContours}
 use Rattle.rings.specs.Loops.{Loop, IsHole, AreLoopsOf}
 use Rattle.rings.proofs.Lists.{Has, has_head, has_of, of_has, has_left, has_right, has_parts, has_permuted, has_split, all_at, NoRepeats, no_repeats_left, no_repeats_right, no_repeats_round, no_repeats_permuted, IsTest, IsOrder, Rising, rising_of, rising_same, round_sym, zip_left, zip_right}
 use Rattle.rings.proofs.Order.{point_same, list_order, contour_same}
@@ -51,25 +51,25 @@ pub edge_test : IsTest same_edge
 edge_test = record { tells = same_tells; meets = same_meets }
 
 -- ---- walks that use the same edges
-pub has_joined : (ws : List (List Edge)) (w : List Edge) (e : Edge) → Has ws w → Has w e → Has (joined ws) e
+pub has_joined : (ws : List (List Edge)) (w : List Edge) (e : Edge) → Has ws w → Has w e → Has (joined_walks ws) e
 unfolding Has
 has_joined [] w e h i = absurd h
-has_joined (v ∷ ws) w e (inl p) i = has_left v (joined ws) e (subst (λ u. Has u e) (sym p) i)
-has_joined (v ∷ ws) w e (inr h) i = has_right v (joined ws) e (has_joined ws w e h i)
+has_joined (v ∷ ws) w e (inl p) i = has_left v (joined_walks ws) e (subst (λ u. Has u e) (sym p) i)
+has_joined (v ∷ ws) w e (inr h) i = has_right v (joined_walks ws) e (has_joined ws w e h i)
 
-joined_has : (ws : List (List Edge)) (e : Edge) → Has (joined ws) e → (w : List Edge) × Has ws w × Has w e
+joined_has : (ws : List (List Edge)) (e : Edge) → Has (joined_walks ws) e → (w : List Edge) × Has ws w × Has w e
 unfolding Has
 joined_has [] e h = absurd h
-joined_has (v ∷ ws) e h = elim (has_parts v (joined ws) e h) [
+joined_has (v ∷ ws) e h = elim (has_parts v (joined_walks ws) e h) [
   | inl i ↦ (v, inl refl, i)
   | inr i ↦ (let r = joined_has ws e i in (r.0, inr r.1, r.2))
 ]
 
-no_repeats_joined : (ws : List (List Edge)) (w : List Edge) → NoRepeats (joined ws) → Has ws w → NoRepeats w
+no_repeats_joined : (ws : List (List Edge)) (w : List Edge) → NoRepeats (joined_walks ws) → Has ws w → NoRepeats w
 unfolding Has
 no_repeats_joined [] w n h = absurd h
-no_repeats_joined (v ∷ ws) w n (inl p) = subst NoRepeats p (no_repeats_left v (joined ws) n)
-no_repeats_joined (v ∷ ws) w n (inr h) = no_repeats_joined ws w (no_repeats_right v (joined ws) n) h
+no_repeats_joined (v ∷ ws) w n (inl p) = subst NoRepeats p (no_repeats_left v (joined_walks ws) n)
+no_repeats_joined (v ∷ ws) w n (inr h) = no_repeats_joined ws w (no_repeats_right v (joined_walks ws) n) h
 
 -- two lists have the same elements
 pub record AreSame {X : Type 0} (xs ys : List X) : Type 0 where
@@ -79,7 +79,7 @@ pub record AreSame {X : Type 0} (xs ys : List X) : Type 0 where
 pub same_back : {X : Type 0} (xs ys : List X) → AreSame xs ys → AreSame ys xs
 same_back xs ys s = record { there = s.back; back = s.there }
 
-next_again : (es fs : List Edge) (e f : Edge) → AreSame es fs → IsNext es e f → IsNext fs e f
+next_again : (es fs : List Edge) (e f : Edge) → AreSame es fs → IsNextEdge es e f → IsNextEdge fs e f
 next_again es fs e f s n = record {
   one = of_has fs f (s.there f (has_of es f n.one));
   joins = n.joins;
@@ -91,7 +91,7 @@ walk_again es fs w s h = record { some = h.some; next = λ k d l. next_again es 
 
 -- the walks use each edge once
 pub record IsUse (es : List Edge) (ws : List (List Edge)) : Type 0 where
-  pub once : IsPermutation (joined ws) es
+  pub once : IsPermutation (joined_walks ws) es
   pub next : All (IsWalk es) ws
 
 split_round : (us vs : List Edge) (a : Edge) → IsSameRound (us ++ a ∷ vs) (a ∷ vs ++ us)
@@ -100,22 +100,22 @@ split_round us vs a = record { front = us; back = a ∷ vs; was = refl; is = ref
 -- each walk of the one is a walk of the other, maybe begun elsewhere
 pub walk_there : (es fs : List Edge) (ws vs : List (List Edge)) → HasOneNext es → NoRepeats es → NoRepeats fs → AreSame es fs → IsUse es ws → IsUse fs vs
     → (w : List Edge) → Has ws w → (v : List Edge) × Has vs v × IsSameRound v w
-walk_there es fs ws vs o n m s u t w h = begun w h (all_at (IsWalk es) ws w u.next h) (no_repeats_joined ws w (no_repeats_permuted same_edge edge_test es (joined ws) (IsPermutation-sym (joined ws) es u.once) n) h)
+walk_there es fs ws vs o n m s u t w h = begun w h (all_at (IsWalk es) ws w u.next h) (no_repeats_joined ws w (no_repeats_permuted same_edge edge_test es (joined_walks ws) (IsPermutation-sym (joined_walks ws) es u.once) n) h)
   where
     found : (a : Edge) (xs : List Edge) → IsWalk es (a ∷ xs) → NoRepeats (a ∷ xs) → (v : List Edge) → Has vs v → Has v a → IsSameRound v (a ∷ xs)
     found a xs p q v i j =
         let k = has_split v a j in
         let r = subst (λ z. IsSameRound z (a ∷ k.1 ++ k.0)) (sym k.2) (split_round k.0 k.1 a) in
         let b = walk_again fs es v (same_back es fs s) (all_at (IsWalk fs) vs v t.next i) in
-        let c = no_repeats_joined vs v (no_repeats_permuted same_edge edge_test fs (joined vs) (IsPermutation-sym (joined vs) fs t.once) m) i in
+        let c = no_repeats_joined vs v (no_repeats_permuted same_edge edge_test fs (joined_walks vs) (IsPermutation-sym (joined_walks vs) fs t.once) m) i in
         subst (λ z. IsSameRound v (a ∷ z))
         (walk_same es o a (k.1 ++ k.0) xs (walk_round es v (a ∷ k.1 ++ k.0) r b) p (no_repeats_round v (a ∷ k.1 ++ k.0) r c) q) r
 
     begun : (w : List Edge) → Has ws w → IsWalk es w → NoRepeats w → (v : List Edge) × Has vs v × IsSameRound v w
     begun [] h p q = absurd (p.some refl)
     begun (a ∷ xs) h p q =
-        let e = s.there a (has_permuted (joined ws) es a u.once (has_joined ws (a ∷ xs) a h (has_head a xs))) in
-        let v = joined_has vs a (has_permuted fs (joined vs) a (IsPermutation-sym (joined vs) fs t.once) e) in
+        let e = s.there a (has_permuted (joined_walks ws) es a u.once (has_joined ws (a ∷ xs) a h (has_head a xs))) in
+        let v = joined_has vs a (has_permuted fs (joined_walks vs) a (IsPermutation-sym (joined_walks vs) fs t.once) e) in
         (v.0, v.1, found a xs p q v.0 v.1 v.2)
 
 -- ---- contours

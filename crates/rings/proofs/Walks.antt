@@ -4,9 +4,9 @@ use Rattle.std.specs.Prelude.{map}
 use Rattle.std.specs.List.{All, filter}
 use Rattle.std.proofs.lemmas.List.{map-append}
 use Rattle.std.proofs.lemmas.List.Elements.{filter-append, All-head, All-tail}
-use Rattle.covering.specs.Covering.{Edge}
-use Rattle.rings.specs.Turning.{IsNext}
-use Rattle.rings.specs.Walks.{Visit, visits, visits_after, last_of, IsWalk, corner, is_bend, bends, IsSameRound, IsLess}
+use Rattle.plane.specs.Covering.{Edge}
+use Rattle.rings.specs.Turning.{IsNextEdge}
+use Rattle.rings.specs.Walks.{Visit, visits, visits_after, last_of, IsWalk, visit_corner, is_bend, bends, IsSameRound, IsLess}
 use Rattle.rings.specs.Loops.{IsHole}
 use Rattle.rings.proofs.Lists.{Has, has_of, of_has, NoRepeats, all_at, all_of, round_keeps, round_refl, round_sym, round_step, round_trans, has_round}
 
@@ -63,7 +63,7 @@ round_filtered p xs ys r = record {
 
 pub bends_round : (w v : List Edge) → IsSameRound w v → IsSameRound (bends w) (bends v)
 unfolding bends
-bends_round w v r = round_mapped corner (filter is_bend (visits w)) (filter is_bend (visits v)) (round_filtered is_bend (visits w) (visits v) (visits_round w v r))
+bends_round w v r = round_mapped visit_corner (filter is_bend (visits w)) (filter is_bend (visits v)) (round_filtered is_bend (visits w) (visits v) (visits_round w v r))
 
 all_round : {X : Type 0} (P : X → Type 0) (xs ys : List X) → IsSameRound xs ys → All P xs → All P ys
 all_round P xs ys r a = all_of P ys (λ y h. all_at P xs y a (has_round ys xs (round_sym xs ys r) y h))
@@ -78,7 +78,7 @@ none_round {X} xs ys r f e = f (r.was ∙ by r.front r.back (sym r.is ∙ e))
 
 pub walk_round : (es w v : List Edge) → IsSameRound w v → IsWalk es w → IsWalk es v
 walk_round es w v r h =
-    record { some = none_round w v r h.some; next = all_round (λ u. IsNext es u.comes u.goes) (visits w) (visits v) (visits_round w v r) h.next }
+    record { some = none_round w v r h.some; next = all_round (λ u. IsNextEdge es u.comes u.goes) (visits w) (visits v) (visits_round w v r) h.next }
 
 pub hole_round : (w v : List Edge) → IsSameRound w v → IsHole w → IsHole v
 unfolding IsHole
@@ -87,34 +87,34 @@ hole_round w v r (u, h) =
       u,
       record {
         one = of_has (visits v) u (has_round (visits w) (visits v) s u (has_of (visits w) u h.one));
-        least = all_round (λ t. IsLess (corner t) (corner u) → ⊥) (visits w) (visits v) s h.least;
+        least = all_round (λ t. IsLess (visit_corner t) (visit_corner u) → ⊥) (visits w) (visits v) s h.least;
         passes = h.passes;
       },
     )
 
 -- ---- each edge has one next
 unfoldable pub HasOneNext : List Edge → Type 0
-HasOneNext es = (e f g : Edge) → IsNext es e f → IsNext es e g → f ≡ g
+HasOneNext es = (e f g : Edge) → IsNextEdge es e f → IsNextEdge es e g → f ≡ g
 
 -- each is followed by its next, and the last by z
 unfoldable pub LeadsTo : List Edge → Edge → Edge → List Edge → Type 0
-LeadsTo es z a [] = IsNext es a z
-LeadsTo es z a (b ∷ bs) = IsNext es a b × LeadsTo es z b bs
+LeadsTo es z a [] = IsNextEdge es a z
+LeadsTo es z a (b ∷ bs) = IsNextEdge es a b × LeadsTo es z b bs
 
-leads_from : (es : List Edge) (z a : Edge) (bs : List Edge) → All (λ u. IsNext es u.comes u.goes) (visits_after a bs) → IsNext es (last_of a bs) z → LeadsTo es z a bs
+leads_from : (es : List Edge) (z a : Edge) (bs : List Edge) → All (λ u. IsNextEdge es u.comes u.goes) (visits_after a bs) → IsNextEdge es (last_of a bs) z → LeadsTo es z a bs
 unfolding LeadsTo visits_after last_of
 leads_from es z a [] h n = n
 leads_from es z a (b ∷ bs) h n = (
-  All-head (λ u. IsNext es u.comes u.goes) (record { comes = a; goes = b }) (visits_after b bs) h,
-  leads_from es z b bs (All-tail (λ u. IsNext es u.comes u.goes) (record { comes = a; goes = b }) (visits_after b bs) h) n,
+  All-head (λ u. IsNextEdge es u.comes u.goes) (record { comes = a; goes = b }) (visits_after b bs) h,
+  leads_from es z b bs (All-tail (λ u. IsNextEdge es u.comes u.goes) (record { comes = a; goes = b }) (visits_after b bs) h) n,
 )
 
 leads_of : (es : List Edge) (a : Edge) (bs : List Edge) → IsWalk es (a ∷ bs) → LeadsTo es a a bs
 unfolding first_visit
 leads_of es a bs w =
-    let n = subst (All (λ u. IsNext es u.comes u.goes)) (visits_head a bs) w.next in
-    leads_from es a a bs (All-tail (λ u. IsNext es u.comes u.goes) (first_visit a bs) (visits_after a bs) n)
-    (All-head (λ u. IsNext es u.comes u.goes) (first_visit a bs) (visits_after a bs) n)
+    let n = subst (All (λ u. IsNextEdge es u.comes u.goes)) (visits_head a bs) w.next in
+    leads_from es a a bs (All-tail (λ u. IsNextEdge es u.comes u.goes) (first_visit a bs) (visits_after a bs) n)
+    (All-head (λ u. IsNextEdge es u.comes u.goes) (first_visit a bs) (visits_after a bs) n)
 
 leads_same : (es : List Edge) → HasOneNext es → (z a : Edge) (bs cs : List Edge) → LeadsTo es z a bs → LeadsTo es z a cs → (Has bs z → ⊥) → (Has cs z → ⊥) → bs ≡ cs
 unfolding LeadsTo Has HasOneNext

@@ -3,7 +3,7 @@
 use Rattle.std.specs.Prelude.{◌≡◌, ◌⊎◌, List, [], ◌∷◌, ◌++◌, pos, ◌*ℤ◌, ◌<ℤ◌, Any, All, AllPairs, Contains}
 use Rattle.plane.specs.Plane.{PlanePoint}
 use Rattle.grid_num.specs.declared.Point.{Point}
-use Rattle.covering.specs.Covering.{Edge}
+use Rattle.plane.specs.Covering.{Edge}
 use Rattle.strips.specs.declared.Strip.{Strip}
 use Rattle.strips.specs.Strips.{IsInStrip}
 
@@ -11,9 +11,11 @@ use Rattle.strips.specs.Strips.{IsInStrip}
 abbrev pub left_edge : Strip → Edge
 left_edge s = record { start = record { x = s.left_end; y = s.bottom }; finish = record { x = s.left; y = s.top } }
 
+-- from its first row down to its last
 abbrev pub right_edge : Strip → Edge
 right_edge s = record { start = record { x = s.right; y = s.top }; finish = record { x = s.right_end; y = s.bottom } }
 
+-- both sides of all strips
 unfoldable pub side_edges : List Strip → List Edge
 side_edges [] = []
 side_edges (s ∷ ss) = left_edge s ∷ right_edge s ∷ side_edges ss
@@ -23,12 +25,12 @@ unfoldable pub IsCorner : List Strip → Point → Type 0
 IsCorner ss a = Any (λ e. (a ≡ e.start) ⊎ (a ≡ e.finish)) (side_edges ss)
 
 -- there is copper right above p: p is in the last row of a strip
-unfoldable pub HasAbove : List Strip → PlanePoint → Type 0
-HasAbove ss p = Any (λ s. IsInStrip s p × (p.y ≡ pos p.scale *ℤ s.bottom)) ss
+unfoldable pub HasCopperAbove : List Strip → PlanePoint → Type 0
+HasCopperAbove ss p = Any (λ s. IsInStrip s p × (p.y ≡ pos p.scale *ℤ s.bottom)) ss
 
 -- there is copper right below p: p is in the first row of a strip
-unfoldable pub HasBelow : List Strip → PlanePoint → Type 0
-HasBelow ss p = Any (λ s. IsInStrip s p × (p.y ≡ pos p.scale *ℤ s.top)) ss
+unfoldable pub HasCopperBelow : List Strip → PlanePoint → Type 0
+HasCopperBelow ss p = Any (λ s. IsInStrip s p × (p.y ≡ pos p.scale *ℤ s.top)) ss
 
 -- p is on the level line through a, strictly between a and b (of which a is on the left)
 pub record IsStrictlyFrom (a b : Point) (p : PlanePoint) : Type 0 where
@@ -48,8 +50,8 @@ pub record AreNeighbours (ss : List Strip) (a b : Point) : Type 0 where
 -- the right), or just above and none below (then it goes to the left)
 unfoldable pub IsLevelPart : List Strip → Edge → Type 0
 IsLevelPart ss e =
-    (AreNeighbours ss e.start e.finish × ((p : PlanePoint) → IsStrictlyFrom e.start e.finish p → HasBelow ss p × (HasAbove ss p → ⊥)))
-    ⊎ (AreNeighbours ss e.finish e.start × ((p : PlanePoint) → IsStrictlyFrom e.finish e.start p → HasAbove ss p × (HasBelow ss p → ⊥)))
+    (AreNeighbours ss e.start e.finish × ((p : PlanePoint) → IsStrictlyFrom e.start e.finish p → HasCopperBelow ss p × (HasCopperAbove ss p → ⊥)))
+    ⊎ (AreNeighbours ss e.finish e.start × ((p : PlanePoint) → IsStrictlyFrom e.finish e.start p → HasCopperAbove ss p × (HasCopperBelow ss p → ⊥)))
 
 -- the level parts, each once
 pub record AreLevelParts (ss : List Strip) (parts : List Edge) : Type 0 where

@@ -1,12 +1,12 @@
 -- Boards of a few edges, and their loops and rings.
 use Rattle.std.specs.Prelude.{ℤ, pos, true, false, List, [], ◌∷◌, ◌++◌}
 use Rattle.grid_num.specs.declared.Point.{Point}
-use Rattle.covering.specs.Covering.{Edge, edges_of}
+use Rattle.plane.specs.Covering.{Edge, edges_of}
 use Rattle.rings.specs.Loops.{Loop, AreLoopsOf}
 use Rattle.rings.specs.Rings.{AreRingsOf}
 
-abbrev pub at : ℤ → ℤ → Point
-at x y = record { x = x; y = y }
+abbrev pub corner_at : ℤ → ℤ → Point
+corner_at x y = record { x = x; y = y }
 
 abbrev pub outer : List Point → Loop
 outer cs = record { corners = cs; hole = false }
@@ -17,18 +17,18 @@ hole cs = record { corners = cs; hole = true }
 -- a zone of 10 mm by 10 mm with a foreign via in its middle, in nanometres; its upper edge is cut at 5 mm
 abbrev pub zone_corners : List Point
 zone_corners =
-    at (pos 73222) (pos 0) ∷ at (pos 9926778) (pos 0) ∷ at (pos 10000000) (pos 73222) ∷ at (pos 10000000) (pos 9926778) ∷ at (pos 9926778) (pos 10000000)
-    ∷ at (pos 73222) (pos 10000000) ∷ at (pos 0) (pos 9926778) ∷ at (pos 0) (pos 73222) ∷ []
+    corner_at (pos 73222) (pos 0) ∷ corner_at (pos 9926778) (pos 0) ∷ corner_at (pos 10000000) (pos 73222) ∷ corner_at (pos 10000000) (pos 9926778) ∷ corner_at (pos 9926778) (pos 10000000)
+    ∷ corner_at (pos 73222) (pos 10000000) ∷ corner_at (pos 0) (pos 9926778) ∷ corner_at (pos 0) (pos 73222) ∷ []
 
 abbrev pub via_corners : List Point
 via_corners =
-    at (pos 4792890) (pos 4500000) ∷ at (pos 4500000) (pos 4792890) ∷ at (pos 4500000) (pos 5207110) ∷ at (pos 4792890) (pos 5500000)
-    ∷ at (pos 5207110) (pos 5500000) ∷ at (pos 5500000) (pos 5207110) ∷ at (pos 5500000) (pos 4792890) ∷ at (pos 5207110) (pos 4500000) ∷ []
+    corner_at (pos 4792890) (pos 4500000) ∷ corner_at (pos 4500000) (pos 4792890) ∷ corner_at (pos 4500000) (pos 5207110) ∷ corner_at (pos 4792890) (pos 5500000)
+    ∷ corner_at (pos 5207110) (pos 5500000) ∷ corner_at (pos 5500000) (pos 5207110) ∷ corner_at (pos 5500000) (pos 4792890) ∷ corner_at (pos 5207110) (pos 4500000) ∷ []
 
 abbrev pub cut_corners : List Point
 cut_corners =
-    at (pos 73222) (pos 0) ∷ at (pos 5000000) (pos 0) ∷ at (pos 9926778) (pos 0) ∷ at (pos 10000000) (pos 73222) ∷ at (pos 10000000) (pos 9926778)
-    ∷ at (pos 9926778) (pos 10000000) ∷ at (pos 73222) (pos 10000000) ∷ at (pos 0) (pos 9926778) ∷ at (pos 0) (pos 73222) ∷ []
+    corner_at (pos 73222) (pos 0) ∷ corner_at (pos 5000000) (pos 0) ∷ corner_at (pos 9926778) (pos 0) ∷ corner_at (pos 10000000) (pos 73222) ∷ corner_at (pos 10000000) (pos 9926778)
+    ∷ corner_at (pos 9926778) (pos 10000000) ∷ corner_at (pos 73222) (pos 10000000) ∷ corner_at (pos 0) (pos 9926778) ∷ corner_at (pos 0) (pos 73222) ∷ []
 
 abbrev pub via_edges : List Edge
 via_edges = edges_of cut_corners ++ edges_of via_corners
@@ -39,10 +39,10 @@ via_loops = outer zone_corners ∷ hole via_corners ∷ []
 
 abbrev pub via_ring : List Point
 via_ring =
-    at (pos 73222) (pos 0) ∷ at (pos 9926778) (pos 0) ∷ at (pos 10000000) (pos 73222) ∷ at (pos 10000000) (pos 9926778) ∷ at (pos 9926778) (pos 10000000)
-    ∷ at (pos 73222) (pos 10000000) ∷ at (pos 0) (pos 9926778) ∷ at (pos 0) (pos 4500000) ∷ at (pos 4792890) (pos 4500000) ∷ at (pos 4500000) (pos 4792890)
-    ∷ at (pos 4500000) (pos 5207110) ∷ at (pos 4792890) (pos 5500000) ∷ at (pos 5207110) (pos 5500000) ∷ at (pos 5500000) (pos 5207110)
-    ∷ at (pos 5500000) (pos 4792890) ∷ at (pos 5207110) (pos 4500000) ∷ at (pos 0) (pos 4500000) ∷ at (pos 0) (pos 73222) ∷ []
+    corner_at (pos 73222) (pos 0) ∷ corner_at (pos 9926778) (pos 0) ∷ corner_at (pos 10000000) (pos 73222) ∷ corner_at (pos 10000000) (pos 9926778) ∷ corner_at (pos 9926778) (pos 10000000)
+    ∷ corner_at (pos 73222) (pos 10000000) ∷ corner_at (pos 0) (pos 9926778) ∷ corner_at (pos 0) (pos 4500000) ∷ corner_at (pos 4792890) (pos 4500000) ∷ corner_at (pos 4500000) (pos 4792890)
+    ∷ corner_at (pos 4500000) (pos 5207110) ∷ corner_at (pos 4792890) (pos 5500000) ∷ corner_at (pos 5207110) (pos 5500000) ∷ corner_at (pos 5500000) (pos 5207110)
+    ∷ corner_at (pos 5500000) (pos 4792890) ∷ corner_at (pos 5207110) (pos 4500000) ∷ corner_at (pos 0) (pos 4500000) ∷ corner_at (pos 0) (pos 73222) ∷ []
 
 -- two squares that meet in one point stay two loops and two rings
 --    ___
@@ -51,10 +51,10 @@ via_ring =
 --       |   |
 --       |___|
 abbrev pub first_square : List Point
-first_square = at (pos 0) (pos 0) ∷ at (pos 2) (pos 0) ∷ at (pos 2) (pos 2) ∷ at (pos 0) (pos 2) ∷ []
+first_square = corner_at (pos 0) (pos 0) ∷ corner_at (pos 2) (pos 0) ∷ corner_at (pos 2) (pos 2) ∷ corner_at (pos 0) (pos 2) ∷ []
 
 abbrev pub second_square : List Point
-second_square = at (pos 2) (pos 2) ∷ at (pos 4) (pos 2) ∷ at (pos 4) (pos 4) ∷ at (pos 2) (pos 4) ∷ []
+second_square = corner_at (pos 2) (pos 2) ∷ corner_at (pos 4) (pos 2) ∷ corner_at (pos 4) (pos 4) ∷ corner_at (pos 2) (pos 4) ∷ []
 
 abbrev pub square_edges : List Edge
 square_edges = edges_of first_square ++ edges_of second_square
@@ -65,13 +65,13 @@ square_edges = edges_of first_square ++ edges_of second_square
 --   |-|_|---|_| |
 --   |___________|
 abbrev pub frame_corners : List Point
-frame_corners = at (pos 0) (pos 0) ∷ at (pos 10) (pos 0) ∷ at (pos 10) (pos 6) ∷ at (pos 0) (pos 6) ∷ []
+frame_corners = corner_at (pos 0) (pos 0) ∷ corner_at (pos 10) (pos 0) ∷ corner_at (pos 10) (pos 6) ∷ corner_at (pos 0) (pos 6) ∷ []
 
 abbrev pub left_hole : List Point
-left_hole = at (pos 2) (pos 2) ∷ at (pos 2) (pos 4) ∷ at (pos 4) (pos 4) ∷ at (pos 4) (pos 2) ∷ []
+left_hole = corner_at (pos 2) (pos 2) ∷ corner_at (pos 2) (pos 4) ∷ corner_at (pos 4) (pos 4) ∷ corner_at (pos 4) (pos 2) ∷ []
 
 abbrev pub right_hole : List Point
-right_hole = at (pos 6) (pos 2) ∷ at (pos 6) (pos 4) ∷ at (pos 8) (pos 4) ∷ at (pos 8) (pos 2) ∷ []
+right_hole = corner_at (pos 6) (pos 2) ∷ corner_at (pos 6) (pos 4) ∷ corner_at (pos 8) (pos 4) ∷ corner_at (pos 8) (pos 2) ∷ []
 
 abbrev pub pair_edges : List Edge
 pair_edges = edges_of frame_corners ++ (edges_of left_hole ++ edges_of right_hole)
@@ -81,8 +81,8 @@ pair_loops = outer frame_corners ∷ hole left_hole ∷ hole right_hole ∷ []
 
 abbrev pub pair_ring : List Point
 pair_ring =
-    at (pos 0) (pos 0) ∷ at (pos 10) (pos 0) ∷ at (pos 10) (pos 6) ∷ at (pos 0) (pos 6) ∷ at (pos 0) (pos 2) ∷ at (pos 2) (pos 2) ∷ at (pos 2) (pos 4)
-    ∷ at (pos 4) (pos 4) ∷ at (pos 4) (pos 2) ∷ at (pos 6) (pos 2) ∷ at (pos 6) (pos 4) ∷ at (pos 8) (pos 4) ∷ at (pos 8) (pos 2) ∷ at (pos 0) (pos 2) ∷ []
+    corner_at (pos 0) (pos 0) ∷ corner_at (pos 10) (pos 0) ∷ corner_at (pos 10) (pos 6) ∷ corner_at (pos 0) (pos 6) ∷ corner_at (pos 0) (pos 2) ∷ corner_at (pos 2) (pos 2) ∷ corner_at (pos 2) (pos 4)
+    ∷ corner_at (pos 4) (pos 4) ∷ corner_at (pos 4) (pos 2) ∷ corner_at (pos 6) (pos 2) ∷ corner_at (pos 6) (pos 4) ∷ corner_at (pos 8) (pos 4) ∷ corner_at (pos 8) (pos 2) ∷ corner_at (pos 0) (pos 2) ∷ []
 
 -- a bay that touches the left edge in one point alone: one loop, which touches itself and is no hole
 --    ____
@@ -92,8 +92,8 @@ pair_ring =
 --   |____|
 abbrev pub bay_corners : List Point
 bay_corners =
-    at (pos 0) (pos 0) ∷ at (pos 6) (pos 0) ∷ at (pos 6) (pos 6) ∷ at (pos 0) (pos 6) ∷ at (pos 0) (pos 3) ∷ at (pos 1) (pos 4) ∷ at (pos 2) (pos 3)
-    ∷ at (pos 1) (pos 2) ∷ at (pos 0) (pos 3) ∷ []
+    corner_at (pos 0) (pos 0) ∷ corner_at (pos 6) (pos 0) ∷ corner_at (pos 6) (pos 6) ∷ corner_at (pos 0) (pos 6) ∷ corner_at (pos 0) (pos 3) ∷ corner_at (pos 1) (pos 4) ∷ corner_at (pos 2) (pos 3)
+    ∷ corner_at (pos 1) (pos 2) ∷ corner_at (pos 0) (pos 3) ∷ []
 
 abbrev pub bay_edges : List Edge
 bay_edges = edges_of bay_corners

@@ -2,14 +2,14 @@
 use Rattle.std.specs.Prelude.{◌≡◌, ◌↔◌, List, length, Any, AllPairs, Contains, map}
 use Rattle.std.specs.List.{All, AllZip}
 use Rattle.std.specs.List.Sorted.{IsPermutation}
-use Rattle.rings.specs.Walks.{IsWalk, joined}
-use Rattle.rings.specs.Tracing.{walks_of, drawings_of, loops_by, slits_by, rings_by}
+use Rattle.rings.specs.Walks.{IsWalk, joined_walks}
+use Rattle.rings.specs.Inner.Tracing.{walks_of, drawings_of, loops_by, slits_by, rings_by}
 use Rattle.plane.specs.Plane.{PlanePoint, Bounds, In}
 use Rattle.grid_num.specs.declared.Point.{Point}
-use Rattle.covering.specs.Covering.{Edge, Covers, edges_of_all}
+use Rattle.plane.specs.Covering.{Edge, Covers, edges_of_all}
 use Rattle.strips.specs.declared.Strip.{Strip}
-use Rattle.strips.specs.Strips.{IsInStrip, IsTrapezoid, IsBefore, AreCovering}
-use Rattle.rings.specs.Turning.{IsNext}
+use Rattle.strips.specs.Strips.{IsInStrip, IsTrapezoid, IsStripBefore, AreCovering}
+use Rattle.rings.specs.Turning.{IsNextEdge}
 use Rattle.rings.specs.Loops.{Loop, AreLoopsOf}
 use Rattle.rings.specs.Slits.{IsSlit, cut_by}
 use Rattle.rings.specs.Rings.{holes_of, with_slits, AreRingsOf}
@@ -20,7 +20,7 @@ use Rattle.rings.specs.Sheets.{AreLoops, AreRings}
 -- octagons are so, and those of any sheet.
 pub record AreOrderly (ss : List Strip) : Type 0 where
   pub shapes : All (λ s. IsTrapezoid s) ss
-  pub order : AllPairs IsBefore ss
+  pub order : AllPairs IsStripBefore ss
 
 -- just one list of loops is right
 abbrev pub OneLoopsLaw : Type 0
@@ -57,9 +57,9 @@ SomeRingsLaw = (ss : List Strip) → AreOrderly ss → (rings : List (List Point
 
 -- each of the edges has just one next edge, and is the next edge of no two
 pub record HasOneNextEach (es : List Edge) : Type 0 where
-  pub some : (e : Edge) → Contains es e → (f : Edge) × IsNext es e f
-  pub one : (e f g : Edge) → IsNext es e f → IsNext es e g → f ≡ g
-  pub apart : (e g f : Edge) → Contains es e → Contains es g → IsNext es e f → IsNext es g f → e ≡ g
+  pub some : (e : Edge) → Contains es e → (f : Edge) × IsNextEdge es e f
+  pub one : (e f g : Edge) → IsNextEdge es e f → IsNextEdge es e g → f ≡ g
+  pub apart : (e g f : Edge) → Contains es e → Contains es g → IsNextEdge es e f → IsNextEdge es g f → e ≡ g
   pub once : AllPairs (λ e f. e ≡ f → ⊥) es
 
 -- so it is with the boundary edges of a sheet, in any order
@@ -88,14 +88,14 @@ SomeSlitsLaw =
 abbrev pub WalksLaw : Type 0
 WalksLaw =
     (ss : List Strip) (es fs : List Edge) → AreOrderly ss → AreBoundary ss es → IsPermutation es fs
-    → All (IsWalk fs) (walks_of (length fs) fs fs) × IsPermutation (joined (walks_of (length fs) fs fs)) fs
+    → All (IsWalk fs) (walks_of (length fs) fs fs) × IsPermutation (joined_walks (walks_of (length fs) fs fs)) fs
 
 -- and along the boundary and the slits
 abbrev pub SlitsWalksLaw : Type 0
 SlitsWalksLaw =
     (ss : List Strip) (es : List Edge) (loops : List Loop) (slits gs : List Edge) → AreOrderly ss → AreBoundary ss es → AreLoopsOf es loops
     → AllZip (IsSlit es) (holes_of loops) slits → IsPermutation (with_slits es slits) gs
-    → All (IsWalk gs) (walks_of (length gs) gs gs) × IsPermutation (joined (walks_of (length gs) gs gs)) gs
+    → All (IsWalk gs) (walks_of (length gs) gs gs) × IsPermutation (joined_walks (walks_of (length gs) gs gs)) gs
 
 -- its loops are the right ones, from the edges in any order
 abbrev pub LoopsByLaw : Type 0

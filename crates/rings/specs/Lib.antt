@@ -7,4 +7,4 @@ pub mod Boundary
 pub mod Sheets
 pub mod Laws
 pub mod Examples
-pub mod Tracing
+pub mod Inner

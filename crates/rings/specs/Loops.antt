@@ -2,9 +2,9 @@
 use Rattle.std.specs.Prelude.{◌↔◌, ◌<◌, Bool, List, map, Contains, IsTrue}
 use Rattle.std.specs.List.{All, AllZip}
 use Rattle.grid_num.specs.declared.Point.{Point}
-use Rattle.covering.specs.Covering.{Edge}
+use Rattle.plane.specs.Covering.{Edge}
 use Rattle.rings.specs.Turning.{direction, turn_to}
-use Rattle.rings.specs.Walks.{Visit, visits, corner, IsLess, AreContours}
+use Rattle.rings.specs.Walks.{Visit, visits, visit_corner, IsLess, AreContours}
 
 -- the corners of a loop, and whether it is a hole
 pub record Loop : Type 0 where
@@ -14,7 +14,7 @@ pub record Loop : Type 0 where
 -- the walk comes to its least corner, and turning there from the way back to the way on one passes due left
 pub record IsOpenLeft (w : List Edge) (v : Visit) : Type 0 where
   pub one : Contains (visits w) v
-  pub least : All (λ u. IsLess (corner u) (corner v) → ⊥) (visits w)
+  pub least : All (λ u. IsLess (visit_corner u) (visit_corner v) → ⊥) (visits w)
   pub passes : turn_to v.comes 4 < turn_to v.comes (direction v.goes)
 
 -- so there is copper to the left of the walk's least corner, and the walk goes around a hole. A walk that doesn't touch

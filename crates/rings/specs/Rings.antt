@@ -1,9 +1,10 @@
 -- Rings: what is written of a fill. A ring goes along an outer loop, and by slits along the holes in it.
-use Rattle.std.specs.Prelude.{List, ◌++◌, map}
-use Rattle.std.specs.List.{AllZip, filter}
+use Rattle.std.specs.Prelude.{ℕ, List, ◌++◌, map}
+use Rattle.std.specs.List.{All, AllZip, filter}
 use Rattle.grid_num.specs.declared.Point.{Point}
-use Rattle.covering.specs.Covering.{Edge}
-use Rattle.covering.specs.Edges.{both_ways}
+use Rattle.grid_num.specs.Length.{IsInRange}
+use Rattle.plane.specs.Covering.{Edge}
+use Rattle.plane.specs.Edges.{both_ways}
 use Rattle.rings.specs.Walks.{AreContours}
 use Rattle.rings.specs.Loops.{Loop, AreLoopsOf}
 use Rattle.rings.specs.Slits.{IsSlit, cut_by}
@@ -24,3 +25,12 @@ pub record AreRingsOf (es : List Edge) (rings : List (List Point)) : Type 0 wher
   pub each : AllZip (IsSlit es) (holes_of loops) slits
   pub walks : List (List Edge)
   pub contours : AreContours (with_slits es slits) walks rings
+
+-- the ring's corners lie within 500 mm
+abbrev pub IsRingInRange : List Point → Type 0
+IsRingInRange corners = All (λ corner. IsInRange corner.x × IsInRange corner.y) corners
+
+-- the outlines of a sheet: its rings, and twice its area in square nanometres
+pub record Traced : Type 0 where
+  pub rings : List (List Point)
+  pub area2 : ℕ

@@ -1,7 +1,7 @@
 -- The loops and the rings of a sheet, by its strips.
 use Rattle.std.specs.Prelude.{List}
 use Rattle.grid_num.specs.declared.Point.{Point}
-use Rattle.covering.specs.Covering.{Edge}
+use Rattle.plane.specs.Covering.{Edge}
 use Rattle.strips.specs.declared.Strip.{Strip}
 use Rattle.rings.specs.Boundary.{AreBoundary}
 use Rattle.rings.specs.Loops.{Loop, AreLoopsOf}

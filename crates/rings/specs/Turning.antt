@@ -1,7 +1,7 @@
 -- The directions of edges, and the rule by which one goes on at a corner. x grows to the right and y downward, and each
 -- edge is level, upright or slanted by 45 degrees.
 use Rattle.std.specs.Prelude.{◌≡◌, ℕ, ◌+◌, ◌-◌, ◌%◌, ◌≤◌, List, int_lt, if◌then◌else◌, Contains}
-use Rattle.covering.specs.Covering.{Edge}
+use Rattle.plane.specs.Covering.{Edge}
 
 -- the direction of an edge in eighths of a turn, counterclockwise on the screen from due right
 --
@@ -25,7 +25,7 @@ unfoldable pub turn_to : Edge → ℕ → ℕ
 turn_to e d = (d + 11 - direction e) % 8 + 1
 
 -- f is the next edge after e: of those that go out where e ends, the one that is met first when one turns so
-pub record IsNext (es : List Edge) (e f : Edge) : Type 0 where
+pub record IsNextEdge (es : List Edge) (e f : Edge) : Type 0 where
   pub one : Contains es f
   pub joins : f.start ≡ e.finish
   pub first : (g : Edge) → Contains es g → g.start ≡ e.finish → turn_to e (direction f) ≤ turn_to e (direction g)

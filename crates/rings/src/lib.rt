@@ -1,10 +1,15 @@
 //! The loops and the rings that bound a sheet of copper: definitions with their laws.
-//! The crates above use the definitions of `specs/` and the laws that the functions here state; nothing here runs.
+//! The crates above use `Loop`, `Ring` and `Traced`, the definitions of `specs/` and the laws that the functions here state;
+//! nothing here runs.
 //! Coordinates are nanometres, as those of strips.
 #![tactic(auto)]
 
 ghost use Rattle.rings.specs.Examples.{ExamplesLaw};
 ghost use Rattle.rings.specs.Laws.{OneLoopsLaw, OneRingsLaw, LoopsCoverLaw, RingsCoverLaw, SomeLoopsLaw, SomeRingsLaw, SomeSlitsLaw, NextLaw, SlitsNextLaw, UncutLaw, UnionCoverLaw, WalksLaw, SlitsWalksLaw, LoopsByLaw, SlitsByLaw, DrawnRingsLaw, RingsByLaw};
+
+mod outlines;
+
+pub use outlines::{Loop, Ring, Traced};
 
 /// Just one list of loops is right for a sheet, and just one list of rings.
 pub fn one_law()

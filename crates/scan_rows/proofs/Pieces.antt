@@ -4,10 +4,10 @@ use Rattle.std.specs.Prelude.{ℤ, ◌+ℤ◌, ◌-ℤ◌, ◌≤ℤ◌, ◌<ℤ
 use Rattle.std.proofs.lemmas.Int.{ints, by_lt_z}
 use Rattle.plane.specs.Plane.{Bounds, Within, IsOct}
 use Rattle.plane.specs.Narrow.{IsOrdered, Holds}
-use Rattle.octagon.specs.Bounded.{IsInRange}
+use Rattle.octagon.specs.Bounded.{AreInRange}
 use Rattle.grid_sets.specs.Points.{HasPoint, AreApart}
 use Rattle.scan_rows.specs.Sets.{IsRestAdded}
-use Rattle.scan_rows.specs.Cutting.{IsBounded, limit_of, IsBeyond, IsAdded, IsCutOff}
+use Rattle.scan_rows.specs.Inner.Cutting.{IsBounded, limit_of, IsBeyond, IsAdded, IsCutOff}
 use Rattle.scan_rows.specs.declared.cut.Side.{Side}
 use Rattle.scan_rows.specs.declared.cut.Side.TheVariants.{Top, Bottom, Left, Right, TopLeft, BottomRight, BottomLeft, TopRight}
 use Rattle.scan_rows.proofs.Lists.{has_end, apart_end}
@@ -27,7 +27,7 @@ bounded_of o h =
       d1 = omega (arith, ints);
     }
 
-pub range_of : (b : Bounds) → IsBounded b → IsOrdered b → IsInRange b
+pub range_of : (b : Bounds) → IsBounded b → IsOrdered b → AreInRange b
 range_of b h o = record {
   x0 = record { low = omega (arith, ints); high = omega (arith, ints) };
   x1 = record { low = omega (arith, ints); high = omega (arith, ints) };
@@ -191,5 +191,5 @@ pub piece_as : (r : Option Bounds) (b e : Bounds) → IsNone r ↔ ((x y : ℤ) 
     → (x y : ℤ) → Holds r x y ↔ Within b x y
 piece_as r b e n s h x y = subst (λ (v : Bounds). Holds r x y ↔ Within v x y) h (piece_points r e n s x y)
 
-pub range_as : (b e : Bounds) → IsBounded b → IsOrdered b → e ≡ b → IsInRange e
-range_as b e h o q = subst IsInRange (sym q) (range_of b h o)
+pub range_as : (b e : Bounds) → IsBounded b → IsOrdered b → e ≡ b → AreInRange e
+range_as b e h o q = subst AreInRange (sym q) (range_of b h o)

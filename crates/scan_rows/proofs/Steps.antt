@@ -4,7 +4,7 @@ use Rattle.std.specs.Prelude.{ℤ, ◌↔◌}
 use Rattle.std.proofs.lemmas.List.{take_more}
 use Rattle.plane.specs.Plane.{Bounds, Within, IsMeeting, grid_point}
 use Rattle.grid_sets.specs.Points.{HasPoint, AreApart}
-use Rattle.scan_rows.specs.Sets.{IsInSome, IsWithout, IsWithoutAll, IsJoined, IsRestAdded}
+use Rattle.scan_rows.specs.Sets.{IsInSomeSet, IsWithout, IsWithoutAll, IsJoined, IsRestAdded}
 use Rattle.scan_rows.proofs.Grid.{within-In, within_or_not}
 use Rattle.scan_rows.proofs.Lists.{has_end, apart_end, more_by, own_here}
 
@@ -87,7 +87,7 @@ pub joined_more : (o : Bounds) (xs os all mid : List Bounds) (i : ℕ) → i < l
 joined_more o xs os all mid i l e m w = more_by (λ t. IsJoined t os (mid ++ o ∷ [])) o xs i l e (joined_step o (take i xs) os all mid m w)
 
 -- ---- sets
-some_end : (xs : List (List Bounds)) (os : List Bounds) (x y : ℤ) → IsInSome (xs ++ os ∷ []) x y ↔ (IsInSome xs x y ⊎ HasPoint os x y)
+some_end : (xs : List (List Bounds)) (os : List Bounds) (x y : ℤ) → IsInSomeSet (xs ++ os ∷ []) x y ↔ (IsInSomeSet xs x y ⊎ HasPoint os x y)
 some_end [] os x y = (λ h. elim h [ inl w ↦ inr w | inr e ↦ absurd e ], λ h. elim h [ inl e ↦ absurd e | inr w ↦ inl w ])
 some_end (a ∷ xs) os x y =
     let r = some_end xs os x y in (
@@ -97,7 +97,7 @@ some_end (a ∷ xs) os x y =
 
 -- the list has what os has and what one of the sets has
 pub record AreJoined (sets : List (List Bounds)) (os all : List Bounds) : Type 0 where
-  pub same : (x y : ℤ) → HasPoint all x y ↔ (HasPoint os x y ⊎ IsInSome sets x y)
+  pub same : (x y : ℤ) → HasPoint all x y ↔ (HasPoint os x y ⊎ IsInSomeSet sets x y)
   pub apart : AreApart all
 
 pub joined_no_set : (os : List Bounds) → AreApart os → AreJoined [] os os

@@ -14,7 +14,8 @@ ghost use Rattle.std.specs.Prelude.{◌≡◌, ◌↔◌, ◌^◌, ℤ, ◌≤�
 ghost use Rattle.plane.specs.Plane.{Within};
 ghost use Rattle.plane.specs.Narrow.{IsNearZero, IsOrdered, Holds};
 ghost use Rattle.scan_rows.specs.Sets.{IsRestAdded};
-ghost use Rattle.scan_rows.specs.Cutting.{bounds, IsBounded, limit_of, IsBeyond, IsCutOff, IsAdded, IsLesser, IsGreater};
+ghost use Rattle.scan_rows.specs.Inner.Cutting.{bounds, IsBounded, limit_of, IsBeyond, IsCutOff, IsAdded};
+ghost use Rattle.octagon.specs.Inner.Hull.{IsLesser, IsGreater};
 
 use grid_num::Memory;
 use octagon::Oct;

@@ -6,16 +6,12 @@
 ghost use Rattle.std.specs.Prelude.{◌≡◌, ◌⊎◌, ◌↔◌, List, [], ℤ, IsTrue, IfOk, OnOk, OnErr};
 ghost use Rattle.plane.specs.Plane.{Bounds, Within};
 ghost use Rattle.grid_sets.specs.Points.{HasPoint, AreApart, IsCount};
-ghost use Rattle.scan_runs.specs.Cells.{AreCellsOf};
-ghost use Rattle.scan_rows.specs.Sets.{IsInSome};
+ghost use Rattle.scan_runs.specs.Cells.{AreCellsOf, HasNoPoint};
+ghost use Rattle.scan_rows.specs.Sets.{IsInSomeSet, LosesOct, LosesAll, GainsSets};
 
 mod apart;
-#[cfg(test)]
-mod band_tests;
 mod count;
 mod cut;
-#[cfg(test)]
-mod tests;
 
 use crate::apart::{joined, without, without_all};
 use crate::count::{count_of, has_point};
@@ -76,7 +72,7 @@ impl Rows {
 
     /// Takes the octagon's grid points out of the set. A refusal is want of memory, and leaves the set as it was.
     pub fn minus(&mut self, oct: &Oct) -> Result<(), Memory>
-        ensures ok { OnOk result ((x y : ℤ) → HasPoint self.new x y ↔ (HasPoint self.old x y × ¬ (Within oct.now x y))) }
+        ensures ok { OnOk result (LosesOct oct.now self.old self.new) }
         ensures err { OnErr result (self.new ≡ self.old) }
     {
         let rest = without(self.alloc, self.kept(), oct)?;
@@ -87,7 +83,7 @@ impl Rows {
     /// Takes the grid points of all the octagons out of the set. A refusal is want of memory, and leaves the set as it
     /// was.
     pub fn minus_all(&mut self, octs: &[Oct]) -> Result<(), Memory>
-        ensures ok { OnOk result ((x y : ℤ) → HasPoint self.new x y ↔ (HasPoint self.old x y × ¬ (HasPoint octs.now x y))) }
+        ensures ok { OnOk result (LosesAll octs.now self.old self.new) }
         ensures err { OnErr result (self.new ≡ self.old) }
     {
         let rest = without_all(self.alloc, self.kept(), octs)?;
@@ -97,7 +93,7 @@ impl Rows {
 
     /// Adds the points of all the sets. A refusal is want of memory, and leaves the set as it was.
     pub fn union_all(&mut self, others: &[Rows]) -> Result<(), Memory>
-        ensures ok { OnOk result ((x y : ℤ) → HasPoint self.new x y ↔ (HasPoint self.old x y ⊎ IsInSome others.now x y)) }
+        ensures ok { OnOk result (GainsSets others.now self.old self.new) }
         ensures err { OnErr result (self.new ≡ self.old) }
     {
         let all = self.with_all(others)?;
@@ -125,7 +121,7 @@ impl Rows {
     /// bands or runs of a band.
     pub fn bands(&self) -> Result<Vec<Cell>, Memory>
         ensures cells { IfOk result (λ cells. AreCellsOf (HasPoint self.now) cells.items) }
-        ensures none { IfOk result (λ cells. ((x y : ℤ) → ¬ (HasPoint self.now x y)) → cells.items ≡ []) }
+        ensures none { IfOk result (λ cells. HasNoPoint self.now → cells.items ≡ []) }
     {
         cells_of(self.alloc, self.kept())
     }
@@ -140,7 +136,7 @@ impl Rows {
 
     // The octagons of this set and of the others, made apart.
     fn with_all(&self, others: &[Rows]) -> Result<Vec<Oct>, Memory>
-        ensures points { IfOk result (λ all. (x y : ℤ) → HasPoint all.items x y ↔ (HasPoint self.now x y ⊎ IsInSome others.now x y)) }
+        ensures points { IfOk result (λ all. GainsSets others.now self.now all.items) }
         ensures apart { IfOk result (λ all. AreApart all.items) }
     {
         let mut all = Vec::from_slice(self.alloc, self.kept())?;

@@ -9,23 +9,23 @@ use Rattle.plane.proofs.Moved.{grid_law}
 use Rattle.plane.proofs.Tight.{same_points}
 use Rattle.octagon.specs.Bounded.{IsInReach}
 use Rattle.grid_num.specs.declared.Point.{Point}
-use Rattle.grid_sets.specs.Bands.{moved, reach, Band}
+use Rattle.grid_sets.specs.Bands.{place_after, reach, Band}
 use Rattle.grid_sets.specs.Cells.{leftmost, rightmost, cell_of, cells_of}
 use Rattle.grid_sets.specs.declared.Move.{Move}
 use Rattle.grid_sets.specs.declared.Move.TheVariants.{Left, Still, Right}
 use Rattle.grid_sets.specs.declared.Slant.{Slant}
 use Rattle.grid_sets.proofs.Cells.{run_in_cell}
 use Rattle.scan_runs.specs.Strips.{band_of}
-use Rattle.scan_runs.specs.Grouping.{IsGoodBand, AreGoodBands}
+use Rattle.scan_runs.specs.Inner.Grouping.{IsGoodBand, AreGoodBands}
 use Rattle.scan_runs.specs.Cells.{run_cells, numbered_cells}
 use Rattle.scan_runs.specs.declared.cell.Cell.{Cell}
-use Rattle.scan_runs.specs.declared.strip.Strip.{Strip}
+use Rattle.scan_runs.specs.declared.strip.RowStrip.{RowStrip}
 
 within_as : (b : Bounds) (x y u v : ℤ) → x ≡ u → y ≡ v → Within b u v → Within b x y
 within_as b x y u v e f w = subst (λ (z : ℤ). Within b z y) (sym e) (subst (λ (z : ℤ). Within b u z) (sym f) w)
 
 -- ---- the ends of the first row and the last are on the cell
-moved_zero : (m : Move) (a : ℤ) → a ≡ moved m 0 a
+moved_zero : (m : Move) (a : ℤ) → a ≡ place_after m 0 a
 moved_zero Left a = omega (arith, ints)
 moved_zero Still a = refl
 moved_zero Right a = omega (arith, ints)
@@ -71,12 +71,12 @@ in_reach b p o w = record {
 }
 
 -- ---- an octagon that has them has the cell
-left_held : (m : Move) (n : ℕ) (a r : ℤ) → r ≤ℤ moved m 0 a → r ≤ℤ moved m n a → r ≤ℤ leftmost m n a
+left_held : (m : Move) (n : ℕ) (a r : ℤ) → r ≤ℤ place_after m 0 a → r ≤ℤ place_after m n a → r ≤ℤ leftmost m n a
 left_held Left n a r h i = i
 left_held Still n a r h i = i
 left_held Right n a r h i = omega (arith, ints, h)
 
-right_held : (m : Move) (n : ℕ) (a r : ℤ) → moved m 0 a ≤ℤ r → moved m n a ≤ℤ r → rightmost m n a ≤ℤ r
+right_held : (m : Move) (n : ℕ) (a r : ℤ) → place_after m 0 a ≤ℤ r → place_after m n a ≤ℤ r → rightmost m n a ≤ℤ r
 right_held Left n a r h i = omega (arith, ints, h)
 right_held Still n a r h i = i
 right_held Right n a r h i = i
@@ -192,7 +192,7 @@ run_cells_first b band start = sym (no_more start)
 pub run_cells_all : (b : Band) (band i : ℕ) (ss : List Slant) (start new : List Cell) → length ss ≤ i → new ≡ start ++ run_cells b band 0 (take i ss) → new ≡ start ++ run_cells b band 0 ss
 run_cells_all b band i ss start new l h = h ∙ ap (λ (v : List Slant). start ++ run_cells b band 0 v) (take_all i ss l)
 
-numbered_end : (k : ℕ) (bs : List Strip) (s : Strip) → numbered_cells k (map band_of (bs ++ s ∷ [])) ≡ numbered_cells k (map band_of bs) ++ run_cells (band_of s) (k + length bs) 0 s.runs.items
+numbered_end : (k : ℕ) (bs : List RowStrip) (s : RowStrip) → numbered_cells k (map band_of (bs ++ s ∷ [])) ≡ numbered_cells k (map band_of bs) ++ run_cells (band_of s) (k + length bs) 0 s.runs.items
 numbered_end k [] s = let e : k ≡ k + 0 = omega arith in ap (λ (v : ℕ). run_cells (band_of s) v 0 s.runs.items ++ []) e ∙ no_more (run_cells (band_of s) (k + 0) 0 s.runs.items)
 numbered_end k (t ∷ ts) s =
     let e : suc k + length ts ≡ k + suc (length ts) = omega arith in
@@ -200,7 +200,7 @@ numbered_end k (t ∷ ts) s =
     ap (λ (v : List Cell). first ++ v) (numbered_end (suc k) ts s ∙ ap (λ (v : ℕ). numbered_cells (suc k) (map band_of ts) ++ run_cells (band_of s) v 0 s.runs.items) e)
     ∙ sym (append_assoc first (numbered_cells (suc k) (map band_of ts)) (run_cells (band_of s) (k + suc (length ts)) 0 s.runs.items))
 
-pub numbered_more : (i n : ℕ) (bs : List Strip) (d s : Strip) (old new : List Cell) → i < length bs → s ≡ get_or bs i d → n ≡ i → old ≡ numbered_cells 0 (map band_of (take i bs))
+pub numbered_more : (i n : ℕ) (bs : List RowStrip) (d s : RowStrip) (old new : List Cell) → i < length bs → s ≡ get_or bs i d → n ≡ i → old ≡ numbered_cells 0 (map band_of (take i bs))
     → new ≡ old ++ run_cells (band_of s) n 0 s.runs.items → new ≡ numbered_cells 0 (map band_of (take (i + 1) bs))
 numbered_more i n bs d s old new l q e h k =
     let m : length (take i bs) ≡ i = length-take-le i bs (omega arith) in
@@ -208,12 +208,12 @@ numbered_more i n bs d s old new l q e h k =
     k
     ∙ (ap (λ (v : List Cell). v ++ run_cells (band_of s) n 0 s.runs.items) h
     ∙ (ap (λ (v : ℕ). numbered_cells 0 (map band_of (take i bs)) ++ run_cells (band_of s) v 0 s.runs.items) z
-    ∙ (ap (λ (v : Strip). numbered_cells 0 (map band_of (take i bs)) ++ run_cells (band_of v) (0 + length (take i bs)) 0 v.runs.items) q
+    ∙ (ap (λ (v : RowStrip). numbered_cells 0 (map band_of (take i bs)) ++ run_cells (band_of v) (0 + length (take i bs)) 0 v.runs.items) q
     ∙ (sym (numbered_end 0 (take i bs) (get_or bs i d))
-    ∙ ap (λ (v : List Strip). numbered_cells 0 (map band_of v)) (sym (take_more bs i d l))))))
+    ∙ ap (λ (v : List RowStrip). numbered_cells 0 (map band_of v)) (sym (take_more bs i d l))))))
 
-pub numbered_all : (i : ℕ) (bs : List Strip) (new : List Cell) → length bs ≤ i → new ≡ numbered_cells 0 (map band_of (take i bs)) → new ≡ numbered_cells 0 (map band_of bs)
-numbered_all i bs new l h = h ∙ ap (λ (v : List Strip). numbered_cells 0 (map band_of v)) (take_all i bs l)
+pub numbered_all : (i : ℕ) (bs : List RowStrip) (new : List Cell) → length bs ≤ i → new ≡ numbered_cells 0 (map band_of (take i bs)) → new ≡ numbered_cells 0 (map band_of bs)
+numbered_all i bs new l h = h ∙ ap (λ (v : List RowStrip). numbered_cells 0 (map band_of v)) (take_all i bs l)
 
 -- ---- what holds of all cells holds of each
 pub all_map_at : (P : Bounds → Type 0) (f : Slant → Bounds) (ss : List Slant) (i : ℕ) (d : Slant) → All P (map f ss) → i < length ss → P (f (get_or ss i d))
@@ -230,13 +230,13 @@ all_right : (P : Bounds → Type 0) (xs ys : List Bounds) → All P (xs ++ ys) �
 all_right P [] ys h = h
 all_right P (x ∷ xs) ys h = all_right P xs ys (λ j e m. h (suc j) e (omega arith))
 
-pub all_band_at : (P : Bounds → Type 0) (bs : List Strip) (i : ℕ) (d : Strip) → All P (cells_of (map band_of bs)) → i < length bs
+pub all_band_at : (P : Bounds → Type 0) (bs : List RowStrip) (i : ℕ) (d : RowStrip) → All P (cells_of (map band_of bs)) → i < length bs
     → All P (map (cell_of (get_or bs i d).top (get_or bs i d).more) (get_or bs i d).runs.items)
 all_band_at P [] i d h l = absurd (omega arith)
 all_band_at P (b ∷ bs) zero d h l = all_left P (map (cell_of b.top b.more) b.runs.items) (cells_of (map band_of bs)) h
 all_band_at P (b ∷ bs) (suc i) d h l = all_band_at P bs i d (all_right P (map (cell_of b.top b.more) b.runs.items) (cells_of (map band_of bs)) h) (omega arith)
 
-pub good_band_at : (bs : List Strip) (i : ℕ) (d : Strip) → AreGoodBands bs → i < length bs → IsGoodBand (get_or bs i d)
+pub good_band_at : (bs : List RowStrip) (i : ℕ) (d : RowStrip) → AreGoodBands bs → i < length bs → IsGoodBand (get_or bs i d)
 good_band_at [] i d a l = absurd (omega arith)
 good_band_at (t ∷ ts) zero d a l = a.0
 good_band_at (t ∷ ts) (suc i) d a l = good_band_at ts i d a.1 (omega arith)

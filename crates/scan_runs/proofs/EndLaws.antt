@@ -3,13 +3,13 @@ use Rattle.std.proofs.Common.{◌≡◌, sym, subst, ℕ, ◌≤◌, ◌^◌, �
 use Rattle.std.specs.Prelude.{ℤ, pos, ◌+ℤ◌, ◌-ℤ◌, ◌≤ℤ◌, ◌<ℤ◌}
 use Rattle.std.proofs.lemmas.Int.{ints}
 use Rattle.plane.specs.Narrow.{IsNearZero}
-use Rattle.grid_sets.specs.Bands.{moved, reach}
-use Rattle.scan_runs.specs.Lines.{AreApart}
+use Rattle.grid_sets.specs.Bands.{place_after, reach}
+use Rattle.scan_runs.specs.Inner.Lines.{AreEndsApart}
 use Rattle.grid_sets.specs.declared.Move.{Move}
 use Rattle.grid_sets.specs.declared.Move.TheVariants.{Left, Still, Right}
 use Rattle.grid_sets.specs.declared.End.{End}
-use Rattle.scan_runs.proofs.Lines.{left_still, left_left, left_right, right_still, right_left, right_right, ends-AreApart}
-use Rattle.scan_runs.specs.Ends.{IsLeftFor, IsRightFor, IsSmallEnd}
+use Rattle.scan_runs.proofs.Lines.{left_still, left_left, left_right, right_still, right_left, right_right, ends-AreEndsApart}
+use Rattle.scan_runs.specs.Inner.Ends.{IsLeftFor, IsRightFor, IsSmallEnd}
 
 pub left_still_for : (x0 s0 d0 top p : ℤ) (n : ℕ) → p ≡ x0 → IsNearZero (2 ^ 43) (x0) → (s0 -ℤ top) ≤ℤ x0 → (d0 +ℤ (top +ℤ pos n)) ≤ℤ x0 → IsLeftFor x0 s0 d0 top n (record { place = p; go = Still })
 left_still_for x0 s0 d0 top p n e z h i =
@@ -41,8 +41,8 @@ right_right_for x1 s1 d1 top p n e z h i =
     let P : ℤ → Type 0 = λ q. IsRightFor x1 s1 d1 top n (record { place = q; go = Right }) in
     subst P (sym e) (record { small = z; is = right_right x1 s1 d1 top n h i })
 
-pub apart_by : (n : ℕ) (g : ℤ) (e f : End) (a b c d : ℤ) → a ≡ reach 0 e → b ≡ reach 0 f → c ≡ reach n e → d ≡ reach n f → (a +ℤ g) ≤ℤ b → (c +ℤ g) ≤ℤ d → AreApart n g e f
-apart_by n g e f a b c d p q r s h i = ends-AreApart n g e f (omega (arith, ints)) (omega (arith, ints))
+pub apart_by : (n : ℕ) (g : ℤ) (e f : End) (a b c d : ℤ) → a ≡ reach 0 e → b ≡ reach 0 f → c ≡ reach n e → d ≡ reach n f → (a +ℤ g) ≤ℤ b → (c +ℤ g) ≤ℤ d → AreEndsApart n g e f
+apart_by n g e f a b c d p q r s h i = ends-AreEndsApart n g e f (omega (arith, ints)) (omega (arith, ints))
 
 pub not_apart_by : (n : ℕ) (g : ℤ) (e f : End) (a b : ℤ) → a ≡ reach n e → b ≡ reach n f → b <ℤ (a +ℤ g) → n ≡ 0 → reach 0 f <ℤ (reach 0 e +ℤ g)
 not_apart_by n g e f a b p q h z =
@@ -52,7 +52,7 @@ not_apart_by n g e f a b p q h z =
     let v = subst Q z q in
     omega (arith, ints)
 
-reach_small : (m : Move) (k : ℕ) (a : ℤ) → k ≤ 2 ^ 42 → IsNearZero (2 ^ 43) a → IsNearZero (2 ^ 44) (moved m k a)
+reach_small : (m : Move) (k : ℕ) (a : ℤ) → k ≤ 2 ^ 42 → IsNearZero (2 ^ 43) a → IsNearZero (2 ^ 44) (place_after m k a)
 reach_small Left k a h i = record { low = omega (arith, ints); high = omega (arith, ints) }
 reach_small Still k a h i = record { low = omega (arith, ints); high = omega (arith, ints) }
 reach_small Right k a h i = record { low = omega (arith, ints); high = omega (arith, ints) }

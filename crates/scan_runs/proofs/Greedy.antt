@@ -3,7 +3,7 @@ use Rattle.std.proofs.Common.{◌≡◌, refl, sym, ap, ◌∙◌, subst, ℕ, z
 use Rattle.std.specs.Prelude.{ℤ, pos, ◌+ℤ◌}
 use Rattle.std.proofs.lemmas.Int.{ints}
 use Rattle.grid_sets.specs.Rows.{Run, Row}
-use Rattle.grid_sets.specs.Bands.{at, Band, row_of, rows_from, rows_of, AreMovedAlike, AreStill, IsJoining, Ends, AreBandsOf}
+use Rattle.grid_sets.specs.Bands.{run_down, Band, row_of, rows_from, rows_of, AreMovedAlike, AreStill, IsJoining, BandEnds, AreBandsOf}
 use Rattle.grid_sets.specs.declared.Slant.{Slant}
 use Rattle.grid_sets.proofs.BandRows.{append_none, rows_alike, slants_on, slants_told, alike_back, alike_through}
 
@@ -31,7 +31,7 @@ has_first : (rows : List Row) (init : List Band) (b : Band) → AreBandsOf rows 
 has_first rows [] b h = subst HasFirst (sym h.1) tt
 has_first rows (a ∷ as_) b h = subst HasFirst (sym h.1) tt
 
-ends_append : (b : Band) (rows extra : List Row) → HasFirst rows → Ends b rows → Ends b (rows ++ extra)
+ends_append : (b : Band) (rows extra : List Row) → HasFirst rows → BandEnds b rows → BandEnds b (rows ++ extra)
 ends_append b [] extra h e = absurd h
 ends_append b (r ∷ rs) extra h e = e
 
@@ -78,10 +78,10 @@ row_by y z rs ts e f = cc
 pub second_row : (b : Band) (r : Row) (j : IsJoining b r) → b.more ≡ 0 → rows_of (band b.top 1 j.steps) ≡ rows_of b ++ r ∷ []
 second_row b r j z =
     let c = band b.top 1 j.steps in
-    let l : map (at 0) j.steps ≡ map (at 0) b.runs = subst (λ (n : ℕ). map (at 0) j.steps ≡ map (at n) b.runs) z j.last in
+    let l : map (run_down 0) j.steps ≡ map (run_down 0) b.runs = subst (λ (n : ℕ). map (run_down 0) j.steps ≡ map (run_down n) b.runs) z j.last in
     let one : r.y ≡ b.top +ℤ pos 1 = subst (λ (n : ℕ). r.y ≡ b.top +ℤ pos (suc n)) z j.next in
-    let e : row_of c 0 ≡ row_of b 0 = row_by (b.top +ℤ pos 0) (b.top +ℤ pos 0) (map (at 0) j.steps) (map (at 0) b.runs) refl l in
-    let f : row_of c 1 ≡ r = row_by (b.top +ℤ pos 1) r.y (map (at 1) j.steps) r.runs (sym one) j.new in
+    let e : row_of c 0 ≡ row_of b 0 = row_by (b.top +ℤ pos 0) (b.top +ℤ pos 0) (map (run_down 0) j.steps) (map (run_down 0) b.runs) refl l in
+    let f : row_of c 1 ≡ r = row_by (b.top +ℤ pos 1) r.y (map (run_down 1) j.steps) r.runs (sym one) j.new in
     let g : rows_of b ≡ row_of b 0 ∷ [] = ap (λ (n : ℕ). rows_from b 0 (suc n)) z in
     let h : row_of c 0 ∷ row_of c 1 ∷ [] ≡ row_of b 0 ∷ r ∷ [] = cc in
     h ∙ sym (ap (λ (t : List Row). t ++ r ∷ []) g)
@@ -90,10 +90,10 @@ second_row b r j z =
 pub later_row : (b : Band) (r : Row) (j : IsJoining b r) → 1 ≤ b.more → rows_of (band b.top (suc b.more) b.runs) ≡ rows_of b ++ r ∷ []
 later_row b r j one =
     let c = band b.top (suc b.more) b.runs in
-    let a : map (at (0 + 1)) j.steps ≡ map (at (b.more + 1)) b.runs = slants_on j.steps b.runs 0 b.more 1 (j.alike one) j.last in
+    let a : map (run_down (0 + 1)) j.steps ≡ map (run_down (b.more + 1)) b.runs = slants_on j.steps b.runs 0 b.more 1 (j.alike one) j.last in
     let d : b.more + 1 ≡ suc b.more = omega arith in
-    let e : map (at (suc b.more)) b.runs ≡ r.runs = subst (λ (n : ℕ). map (at n) b.runs ≡ r.runs) d (sym a ∙ j.new) in
-    let f : row_of c (0 + suc b.more) ≡ r = subst (λ (n : ℕ). row_of c n ≡ r) (plus_zero (suc b.more)) (row_by (b.top +ℤ pos (suc b.more)) r.y (map (at (suc b.more)) b.runs) r.runs (sym j.next) e) in
+    let e : map (run_down (suc b.more)) b.runs ≡ r.runs = subst (λ (n : ℕ). map (run_down n) b.runs ≡ r.runs) d (sym a ∙ j.new) in
+    let f : row_of c (0 + suc b.more) ≡ r = subst (λ (n : ℕ). row_of c n ≡ r) (plus_zero (suc b.more)) (row_by (b.top +ℤ pos (suc b.more)) r.y (map (run_down (suc b.more)) b.runs) r.runs (sym j.next) e) in
     rows_last c 0 (suc b.more) ∙ ap (λ (s : Row). rows_from c 0 (suc b.more) ++ s ∷ []) f ∙ same
   where
     plus_zero : (n : ℕ) → n ≡ 0 + n
@@ -115,17 +115,17 @@ rest_alike b c l m =
     each : (i : ℕ) → row_of (band b.top (b.more + c.more) b.runs) (0 + suc b.more + i) ≡ row_of c (1 + i)
     each i =
         let ys : b.top +ℤ pos b.more ≡ c.top +ℤ pos 0 = ap (λ (r : Row). r.y) l in
-        let rs : map (at b.more) b.runs ≡ map (at 0) c.runs = ap (λ (r : Row). r.runs) l in
+        let rs : map (run_down b.more) b.runs ≡ map (run_down 0) c.runs = ap (λ (r : Row). r.runs) l in
         let s = slants_on b.runs c.runs b.more 0 (1 + i) m rs in
         let e : b.more + (1 + i) ≡ 0 + suc b.more + i = omega arith in
         let f : 0 + (1 + i) ≡ 1 + i = omega arith in
-        row_by (b.top +ℤ pos (0 + suc b.more + i)) (c.top +ℤ pos (1 + i)) (map (at (0 + suc b.more + i)) b.runs) (map (at (1 + i)) c.runs)
+        row_by (b.top +ℤ pos (0 + suc b.more + i)) (c.top +ℤ pos (1 + i)) (map (run_down (0 + suc b.more + i)) b.runs) (map (run_down (1 + i)) c.runs)
         (omega (arith, ints))
-        (subst (λ (n : ℕ). map (at (0 + suc b.more + i)) b.runs ≡ map (at n) c.runs) f (subst (λ (n : ℕ). map (at n) b.runs ≡ map (at (0 + (1 + i))) c.runs) e s))
+        (subst (λ (n : ℕ). map (run_down (0 + suc b.more + i)) b.runs ≡ map (run_down n) c.runs) f (subst (λ (n : ℕ). map (run_down n) b.runs ≡ map (run_down (0 + (1 + i))) c.runs) e s))
 
 -- the rest of a strip with other moves begins a band
 pub rest_other : (b c : Band) → 1 ≤ b.more → row_of b b.more ≡ row_of c 0 → (AreMovedAlike b.runs c.runs → ⊥) → IsJoining b (row_of c 1) → ⊥
 rest_other b c one l n j =
-    let rs : map (at b.more) b.runs ≡ map (at 0) c.runs = ap (λ (r : Row). r.runs) l in
+    let rs : map (run_down b.more) b.runs ≡ map (run_down 0) c.runs = ap (λ (r : Row). r.runs) l in
     let a = slants_told j.steps c.runs (j.last ∙ rs) j.new in
     n (alike_through b.runs j.steps c.runs (alike_back j.steps b.runs (j.alike one)) a)

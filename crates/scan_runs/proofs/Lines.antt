@@ -4,13 +4,13 @@ use Rattle.std.specs.Prelude.{ℤ, pos, ◌+ℤ◌, ◌-ℤ◌, ◌≤ℤ◌, �
 use Rattle.std.proofs.lemmas.Int.{ints}
 use Rattle.plane.specs.Plane.{Bounds, Within, IsTight}
 use Rattle.plane.proofs.Sum.{between3}
-use Rattle.grid_sets.specs.Bands.{moved, reach}
-use Rattle.scan_runs.specs.Lines.{AreApart, IsLesser, IsGreater, IsLeftEnd, IsRightEnd, IsAlong, IsAbsent}
+use Rattle.grid_sets.specs.Bands.{place_after, reach}
+use Rattle.scan_runs.specs.Inner.Lines.{AreEndsApart, IsLesserEnd, IsGreaterEnd, IsLeftEnd, IsRightEnd, IsAlong, IsAbsent}
 use Rattle.grid_sets.specs.declared.Move.{Move}
 use Rattle.grid_sets.specs.declared.Move.TheVariants.{Left, Still, Right}
 use Rattle.grid_sets.specs.declared.End.{End}
 
-between : (m p : Move) (a c g : ℤ) (n k : ℕ) → k ≤ n → (moved m 0 a +ℤ g) ≤ℤ moved p 0 c → (moved m n a +ℤ g) ≤ℤ moved p n c → (moved m k a +ℤ g) ≤ℤ moved p k c
+between : (m p : Move) (a c g : ℤ) (n k : ℕ) → k ≤ n → (place_after m 0 a +ℤ g) ≤ℤ place_after p 0 c → (place_after m n a +ℤ g) ≤ℤ place_after p n c → (place_after m k a +ℤ g) ≤ℤ place_after p k c
 between Left Left a c g n k l h i = omega (arith, ints)
 between Left Still a c g n k l h i = omega (arith, ints)
 between Left Right a c g n k l h i = omega (arith, ints)
@@ -21,23 +21,23 @@ between Right Left a c g n k l h i = omega (arith, ints)
 between Right Still a c g n k l h i = omega (arith, ints)
 between Right Right a c g n k l h i = omega (arith, ints)
 
-pub ends-AreApart : (n : ℕ) (g : ℤ) (e f : End) → (reach 0 e +ℤ g) ≤ℤ reach 0 f → (reach n e +ℤ g) ≤ℤ reach n f → AreApart n g e f
-ends-AreApart n g e f h i = record { each = λ k l. between e.go f.go e.place f.place g n k l h i }
+pub ends-AreEndsApart : (n : ℕ) (g : ℤ) (e f : End) → (reach 0 e +ℤ g) ≤ℤ reach 0 f → (reach n e +ℤ g) ≤ℤ reach n f → AreEndsApart n g e f
+ends-AreEndsApart n g e f h i = record { each = λ k l. between e.go f.go e.place f.place g n k l h i }
 
-pub AreApart-same : (n : ℕ) (e : End) → AreApart n (pos 0) e e
-AreApart-same n e = record { each = λ k l. omega (arith, ints) }
+pub AreEndsApart-same : (n : ℕ) (e : End) → AreEndsApart n (pos 0) e e
+AreEndsApart-same n e = record { each = λ k l. omega (arith, ints) }
 
-pub first-IsLesser : (n : ℕ) (e f : End) → AreApart n (pos 0) e f → IsLesser n e f e
-first-IsLesser n e f h = record { first = AreApart-same n e; second = h; is = inl refl }
+pub first-IsLesserEnd : (n : ℕ) (e f : End) → AreEndsApart n (pos 0) e f → IsLesserEnd n e f e
+first-IsLesserEnd n e f h = record { first = AreEndsApart-same n e; second = h; is = inl refl }
 
-pub second-IsLesser : (n : ℕ) (e f : End) → AreApart n (pos 0) f e → IsLesser n e f f
-second-IsLesser n e f h = record { first = h; second = AreApart-same n f; is = inr refl }
+pub second-IsLesserEnd : (n : ℕ) (e f : End) → AreEndsApart n (pos 0) f e → IsLesserEnd n e f f
+second-IsLesserEnd n e f h = record { first = h; second = AreEndsApart-same n f; is = inr refl }
 
-pub first-IsGreater : (n : ℕ) (e f : End) → AreApart n (pos 0) f e → IsGreater n e f e
-first-IsGreater n e f h = record { first = AreApart-same n e; second = h; is = inl refl }
+pub first-IsGreaterEnd : (n : ℕ) (e f : End) → AreEndsApart n (pos 0) f e → IsGreaterEnd n e f e
+first-IsGreaterEnd n e f h = record { first = AreEndsApart-same n e; second = h; is = inl refl }
 
-pub second-IsGreater : (n : ℕ) (e f : End) → AreApart n (pos 0) e f → IsGreater n e f f
-second-IsGreater n e f h = record { first = h; second = AreApart-same n f; is = inr refl }
+pub second-IsGreaterEnd : (n : ℕ) (e f : End) → AreEndsApart n (pos 0) e f → IsGreaterEnd n e f f
+second-IsGreaterEnd n e f h = record { first = h; second = AreEndsApart-same n f; is = inr refl }
 
 -- ---- the ends of an octagon
 pub left_still : (x0 s0 d0 top : ℤ) (n : ℕ) → (s0 -ℤ top) ≤ℤ x0 → (d0 +ℤ (top +ℤ pos n)) ≤ℤ x0 → IsLeftEnd x0 s0 d0 top n (record { place = x0; go = Still })

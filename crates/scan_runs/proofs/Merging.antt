@@ -2,18 +2,18 @@
 use Rattle.std.proofs.Common.{◌≡◌, refl, sym, ap, subst, ◌⊎◌, inl, inr, ℕ, zero, suc, ◌+◌, ◌≤◌, ◌<◌, List, [], ◌∷◌, ◌++◌, map, arith}
 use Rattle.std.specs.Prelude.{ℤ, pos, negsuc, ◌+ℤ◌, ◌-ℤ◌, ◌≤ℤ◌, ◌↔◌}
 use Rattle.std.proofs.lemmas.Int.{ints, by_lt_z}
-use Rattle.grid_sets.specs.Rows.{Run, IsOnRun, OnRuns, Ascending, Row, OnRows, IsFilled, Descending}
-use Rattle.grid_sets.specs.Bands.{at, reach, Band, rows_from, rows_of}
+use Rattle.grid_sets.specs.Rows.{Run, IsOnRun, OnRuns, AscendingRuns, Row, OnRows, AreMaximalRuns, Descending}
+use Rattle.grid_sets.specs.Bands.{run_down, reach, Band, rows_from, rows_of}
 use Rattle.grid_sets.proofs.Unique.{on_from}
 use Rattle.grid_sets.proofs.OnBands.{on_band, band_on, on_rows}
 use Rattle.plane.specs.Plane.{Bounds, Within}
 use Rattle.grid_sets.specs.Points.{HasPoint}
-use Rattle.scan_runs.specs.Lines.{AreApart, IsLesser, IsGreater}
-use Rattle.scan_runs.specs.Merge.{AreSorted, IsInserted, IsPutIn, IsJoint, AreRowsBetween, AreStraight}
+use Rattle.scan_runs.specs.Inner.Lines.{AreEndsApart, IsLesserEnd, IsGreaterEnd}
+use Rattle.scan_runs.specs.Inner.Merge.{AreSorted, IsInserted, IsPutIn, IsUnionOfRuns, AreRowsBetween, AreStraight}
 use Rattle.grid_sets.specs.declared.End.{End}
 use Rattle.grid_sets.specs.declared.Slant.{Slant}
 
-raise : (l m : ℤ) (rs : List Run) → Ascending l rs → ((x : ℤ) → OnRuns rs x → m ≤ℤ x) → Ascending m rs
+raise : (l m : ℤ) (rs : List Run) → AscendingRuns l rs → ((x : ℤ) → OnRuns rs x → m ≤ℤ x) → AscendingRuns m rs
 raise l m [] a f = tt
 raise l m (r ∷ rs) a f = (f r.from (inl (record { low = omega (arith, ints); high = a.1 })), a.1, a.2)
 
@@ -92,7 +92,7 @@ rows_lower : (l m : ℤ) (rs : List Row) → l ≤ℤ m → Descending m rs → 
 rows_lower l m [] h a = tt
 rows_lower l m (r ∷ rs) h a = (omega (arith, ints), a.1, a.2)
 
-filled_point : (rs : List Run) → IsFilled rs → (x : ℤ) × OnRuns rs x
+filled_point : (rs : List Run) → AreMaximalRuns rs → (x : ℤ) × OnRuns rs x
 filled_point [] h = absurd h
 filled_point (r ∷ rs) h = (r.from, inl (record { low = omega (arith, ints); high = h.1.1 }))
 
@@ -117,8 +117,8 @@ rows_put_together P top mid bottom rs ts h i a b = record {
 
 -- a stretch whose runs are straight is a band
 record IsBandRow (P : ℤ → ℤ → Type 0) (b : Band) (k : ℕ) : Type 0 where
-  sorted : IsFilled (map (at k) b.runs)
-  same : (x : ℤ) → OnRuns (map (at k) b.runs) x ↔ P x (b.top +ℤ pos k)
+  sorted : AreMaximalRuns (map (run_down k) b.runs)
+  same : (x : ℤ) → OnRuns (map (run_down k) b.runs) x ↔ P x (b.top +ℤ pos k)
 
 band_rows : (P : ℤ → ℤ → Type 0) (b : Band) (k n : ℕ) → ((i : ℕ) → i < k + n → IsBandRow P b i) → Descending (b.top +ℤ pos k) (rows_from b k n)
 band_rows P b k zero f = tt
@@ -137,8 +137,8 @@ either : (k : ℕ) (e f m : End) → ((m ≡ e) ⊎ (m ≡ f)) → ((reach k m �
 either k e f m (inl h) = inl (ap (λ (v : End). reach k v) h)
 either k e f m (inr h) = inr (ap (λ (v : End). reach k v) h)
 
-pub joint_law : (n : ℕ) (a b : Slant) (f t : End) → IsLesser n a.from b.from f → IsGreater n a.to b.to t
-    → AreApart n (negsuc 0) b.from a.to → AreApart n (negsuc 0) a.from b.to → IsJoint n a b (record { from = f; to = t })
+pub joint_law : (n : ℕ) (a b : Slant) (f t : End) → IsLesserEnd n a.from b.from f → IsGreaterEnd n a.to b.to t
+    → AreEndsApart n (negsuc 0) b.from a.to → AreEndsApart n (negsuc 0) a.from b.to → IsUnionOfRuns n a b (record { from = f; to = t })
 joint_law n a b f t l g u v = record {
   filled = λ k i h j. through k (l.first.each k i) h (g.first.each k i);
   same = λ k x i. (
@@ -160,29 +160,29 @@ joint_law n a b f t l g u v = record {
     through : (k : ℕ) → (reach k f +ℤ pos 0) ≤ℤ reach k a.from → reach k a.from ≤ℤ reach k a.to → (reach k a.to +ℤ pos 0) ≤ℤ reach k t → reach k f ≤ℤ reach k t
     through k p q r = omega (arith, ints)
 
-    parts : (k : ℕ) (x : ℤ) → ((reach k a.from ≤ℤ x) × (x ≤ℤ reach k a.to)) ⊎ ((reach k b.from ≤ℤ x) × (x ≤ℤ reach k b.to)) → IsOnRun (at k a) x ⊎ IsOnRun (at k b) x
+    parts : (k : ℕ) (x : ℤ) → ((reach k a.from ≤ℤ x) × (x ≤ℤ reach k a.to)) ⊎ ((reach k b.from ≤ℤ x) × (x ≤ℤ reach k b.to)) → IsOnRun (run_down k a) x ⊎ IsOnRun (run_down k b) x
     parts k x (inl h) = inl (record { low = h.0; high = h.1 })
     parts k x (inr h) = inr (record { low = h.0; high = h.1 })
 
-    apart_of : (k : ℕ) (x : ℤ) → IsOnRun (at k a) x ⊎ IsOnRun (at k b) x → ((reach k a.from ≤ℤ x) × (x ≤ℤ reach k a.to)) ⊎ ((reach k b.from ≤ℤ x) × (x ≤ℤ reach k b.to))
+    apart_of : (k : ℕ) (x : ℤ) → IsOnRun (run_down k a) x ⊎ IsOnRun (run_down k b) x → ((reach k a.from ≤ℤ x) × (x ≤ℤ reach k a.to)) ⊎ ((reach k b.from ≤ℤ x) × (x ≤ℤ reach k b.to))
     apart_of k x (inl h) = inl (h.low, h.high)
     apart_of k x (inr h) = inr (h.low, h.high)
 
-    whole : (k : ℕ) (x : ℤ) → (reach k f ≤ℤ x) × (x ≤ℤ reach k t) → IsOnRun (at k (record { from = f; to = t })) x
+    whole : (k : ℕ) (x : ℤ) → (reach k f ≤ℤ x) × (x ≤ℤ reach k t) → IsOnRun (run_down k (record { from = f; to = t })) x
     whole k x h = record { low = h.0; high = h.1 }
 
 -- ---- on all rows at once
 pub put_alone : (n : ℕ) (s : Slant) → IsPutIn n s [] (s ∷ [])
-put_alone n s = record { each = λ k l. insert_alone (at k s) }
+put_alone n s = record { each = λ k l. insert_alone (run_down k s) }
 
-pub put_later : (n : ℕ) (ss new : List Slant) (t s : Slant) → AreApart n (pos 2) t.to s.from → IsPutIn n s ss new → IsPutIn n s (t ∷ ss) (t ∷ new)
-put_later n ss new t s a f = record { each = λ k l. insert_later (map (at k) ss) (map (at k) new) (at k t) (at k s) (a.each k l) (f.each k l) }
+pub put_later : (n : ℕ) (ss new : List Slant) (t s : Slant) → AreEndsApart n (pos 2) t.to s.from → IsPutIn n s ss new → IsPutIn n s (t ∷ ss) (t ∷ new)
+put_later n ss new t s a f = record { each = λ k l. insert_later (map (run_down k) ss) (map (run_down k) new) (run_down k t) (run_down k s) (a.each k l) (f.each k l) }
 
-pub put_first : (n : ℕ) (ss : List Slant) (t s : Slant) → AreApart n (pos 2) s.to t.from → IsPutIn n s (t ∷ ss) (s ∷ t ∷ ss)
-put_first n ss t s a = record { each = λ k l. insert_first (map (at k) ss) (at k t) (at k s) (a.each k l) }
+pub put_first : (n : ℕ) (ss : List Slant) (t s : Slant) → AreEndsApart n (pos 2) s.to t.from → IsPutIn n s (t ∷ ss) (s ∷ t ∷ ss)
+put_first n ss t s a = record { each = λ k l. insert_first (map (run_down k) ss) (run_down k t) (run_down k s) (a.each k l) }
 
-pub put_joint : (n : ℕ) (ss new : List Slant) (t s j : Slant) → IsJoint n t s j → IsPutIn n j ss new → IsPutIn n s (t ∷ ss) new
-put_joint n ss new t s j i f = record { each = λ k l. insert_joint (map (at k) ss) (map (at k) new) (at k t) (at k s) (at k j) (i.filled k l) (λ x. i.same k x l) (f.each k l) }
+pub put_joint : (n : ℕ) (ss new : List Slant) (t s j : Slant) → IsUnionOfRuns n t s j → IsPutIn n j ss new → IsPutIn n s (t ∷ ss) new
+put_joint n ss new t s j i f = record { each = λ k l. insert_joint (map (run_down k) ss) (map (run_down k) new) (run_down k t) (run_down k s) (run_down k j) (i.filled k l) (λ x. i.same k x l) (f.each k l) }
 
 -- ---- a stretch whose runs are straight is a band
 abbrev band : ℤ → ℕ → List Slant → Band
@@ -208,7 +208,7 @@ each_row P top n s ss a i l =
     record { sorted = (w.low, w.ascending); same = λ x. a.same i x (omega arith) }
 
 told : (P : ℤ → ℤ → Type 0) (top : ℤ) (n : ℕ) (s : Slant) (ss : List Slant) (x y : ℤ) → AreStraight P top n (s ∷ ss)
-    → (i : ℕ) × (0 ≤ i) × (i < 0 + suc n) × (y ≡ top +ℤ pos i) × OnRuns (map (at i) (s ∷ ss)) x → (top ≤ℤ y) × (y ≤ℤ (top +ℤ pos n)) × P x y
+    → (i : ℕ) × (0 ≤ i) × (i < 0 + suc n) × (y ≡ top +ℤ pos i) × OnRuns (map (run_down i) (s ∷ ss)) x → (top ≤ℤ y) × (y ≤ℤ (top +ℤ pos n)) × P x y
 told P top n s ss x y a r = (omega (arith, ints, r.3), omega (arith, ints, r.3, r.2), subst (λ (v : ℤ). P x v) (sym r.3) ((a.same r.0 x (omega (arith, r.2))).0 r.4))
 
 pub band_between : (P : ℤ → ℤ → Type 0) (top : ℤ) (n : ℕ) (s : Slant) (ss : List Slant) → AreStraight P top n (s ∷ ss)

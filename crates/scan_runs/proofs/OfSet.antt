@@ -14,11 +14,11 @@ use Rattle.grid_sets.proofs.CellPoints.{cells_points}
 use Rattle.grid_sets.proofs.Apart.{cells_apart_law, cells_tight_law}
 use Rattle.grid_sets.proofs.Unique.{rows_law}
 use Rattle.grid_sets.proofs.OneBands.{bands_law}
-use Rattle.scan_runs.specs.Strips.{band_of, all_rows}
-use Rattle.scan_runs.specs.Grouping.{AreGrouped}
-use Rattle.scan_runs.specs.Cells.{run_cells, numbered_cells, octs_of, AreCellsOf, AreInReach, CellsOnceLaw, NoCellsLaw, TilesLaw}
+use Rattle.scan_runs.specs.Strips.{band_of, rows_of_strips}
+use Rattle.scan_runs.specs.Inner.Grouping.{AreGrouped}
+use Rattle.scan_runs.specs.Cells.{run_cells, numbered_cells, octs_of, AreCellsOf, AreAllInReach, CellsOnceLaw, NoCellsLaw, TilesLaw}
 use Rattle.scan_runs.specs.declared.cell.Cell.{Cell}
-use Rattle.scan_runs.specs.declared.strip.Strip.{Strip}
+use Rattle.scan_runs.specs.declared.strip.RowStrip.{RowStrip}
 
 -- ---- each cell is an octagon of the program
 has_at : (os : List Bounds) (k : ℕ) (d : Bounds) (x y : ℤ) → k < length os → Within (get_or os k d) x y → HasPoint os x y
@@ -35,11 +35,11 @@ oct_by c t n = record {
   y_high = (n (c.d0 +ℤ c.y1) c.y1 (bottom_left_y c t)).1.high;
 }
 
-pub cells_are_octs : (os : List Bounds) (strips bands : List Strip) → AreRowsOf (HasPoint os) (all_rows strips) → AreInReach os → AreGrouped (all_rows strips) bands → All IsOct (cells_of (map band_of bands))
+pub cells_are_octs : (os : List Bounds) (strips bands : List RowStrip) → AreRowsOf (HasPoint os) (rows_of_strips strips) → AreAllInReach os → AreGrouped (rows_of_strips strips) bands → All IsOct (cells_of (map band_of bands))
 cells_are_octs os strips bands a n g k d l =
-    oct_by (get_or (cells_of (map band_of bands)) k d) (cells_tight_law (all_rows strips) (map band_of bands) a.are g.bands k d l)
+    oct_by (get_or (cells_of (map band_of bands)) k d) (cells_tight_law (rows_of_strips strips) (map band_of bands) a.are g.bands k d l)
     (λ x y w.
-    let h : HasPoint os x y = (a.same x y).0 ((cells_points (all_rows strips) (map band_of bands) x y g.bands).1 (has_at (cells_of (map band_of bands)) k d x y l w)) in
+    let h : HasPoint os x y = (a.same x y).0 ((cells_points (rows_of_strips strips) (map band_of bands) x y g.bands).1 (has_at (cells_of (map band_of bands)) k d x y l w)) in
     (n.x x y h, n.y x y h))
 
 -- ---- the cells' octagons
@@ -58,10 +58,10 @@ octs_numbered k (b ∷ bs) =
     ∙ (ap (λ (v : List Bounds). v ++ octs_of (numbered_cells (suc k) bs)) (octs_run_cells b k 0 b.runs)
     ∙ ap (λ (v : List Bounds). map (cell_of b.top b.more) b.runs ++ v) (octs_numbered (suc k) bs))
 
-cells_are : (os : List Bounds) (strips bands : List Strip) (cells : List Cell) → AreRowsOf (HasPoint os) (all_rows strips) → AreGrouped (all_rows strips) bands → cells ≡ numbered_cells 0 (map band_of bands)
+cells_are : (os : List Bounds) (strips bands : List RowStrip) (cells : List Cell) → AreRowsOf (HasPoint os) (rows_of_strips strips) → AreGrouped (rows_of_strips strips) bands → cells ≡ numbered_cells 0 (map band_of bands)
     → AreCellsOf (HasPoint os) cells
 cells_are os strips bands cells a g h = record {
-  rows = all_rows strips;
+  rows = rows_of_strips strips;
   bands = map band_of bands;
   are_rows = a;
   are_bands = g.bands;
@@ -69,7 +69,7 @@ cells_are os strips bands cells a g h = record {
   octs = ap octs_of h ∙ octs_numbered 0 (map band_of bands);
 }
 
-pub cells_by : {V E : Type 0} (items : V → List Cell) (os : List Bounds) (strips bands : List Strip) (r : Result V E) → AreRowsOf (HasPoint os) (all_rows strips) → AreGrouped (all_rows strips) bands
+pub cells_by : {V E : Type 0} (items : V → List Cell) (os : List Bounds) (strips bands : List RowStrip) (r : Result V E) → AreRowsOf (HasPoint os) (rows_of_strips strips) → AreGrouped (rows_of_strips strips) bands
     → IfOk r (λ v. items v ≡ numbered_cells 0 (map band_of bands)) → IfOk r (λ v. AreCellsOf (HasPoint os) (items v))
 cells_by items os strips bands (Err e) a g h = h
 cells_by items os strips bands (Ok v) a g h = cells_are os strips bands (items v) a g h
@@ -98,7 +98,7 @@ tiles os cells a = record {
   tight = subst (All IsTight) (sym a.octs) (cells_tight_law a.rows a.bands a.are_rows.are a.are_bands);
 }
 
-pub none_by : {V E : Type 0} (items : V → List Cell) (os : List Bounds) (strips bands : List Strip) (r : Result V E) → AreRowsOf (HasPoint os) (all_rows strips) → AreGrouped (all_rows strips) bands
+pub none_by : {V E : Type 0} (items : V → List Cell) (os : List Bounds) (strips bands : List RowStrip) (r : Result V E) → AreRowsOf (HasPoint os) (rows_of_strips strips) → AreGrouped (rows_of_strips strips) bands
     → IfOk r (λ v. items v ≡ numbered_cells 0 (map band_of bands)) → IfOk r (λ v. ((x y : ℤ) → HasPoint os x y → ⊥) → items v ≡ [])
 none_by items os strips bands (Err e) a g h = h
 none_by items os strips bands (Ok v) a g h = λ n. no_cells os (items v) n (cells_are os strips bands (items v) a g h)

@@ -4,23 +4,23 @@ use Rattle.std.specs.Prelude.{Option, None, Some, IfSome, ℤ, pos, negsuc, ◌+
 use Rattle.std.proofs.lemmas.Int.{ints}
 use Rattle.plane.specs.Plane.{Bounds, IsOct}
 use Rattle.plane.specs.Narrow.{IsNearZero}
-use Rattle.scan_runs.specs.Lines.{AreApart, IsLesser, IsGreater, IsAlong, IsAbsent}
-use Rattle.scan_runs.specs.Merge.{IsPutIn, AreStraight}
+use Rattle.scan_runs.specs.Inner.Lines.{AreEndsApart, IsLesserEnd, IsGreaterEnd, IsAlong, IsAbsent}
+use Rattle.scan_runs.specs.Inner.Merge.{IsPutIn, AreStraight}
 use Rattle.std.proofs.lemmas.List.{take_more, take_all}
 use Rattle.grid_sets.specs.Points.{HasPoint}
 use Rattle.grid_sets.specs.declared.End.{End}
 use Rattle.grid_sets.specs.declared.Slant.{Slant}
 use Rattle.scan_runs.proofs.Lines.{both-IsAlong}
 use Rattle.scan_runs.proofs.Merging.{joint_law, has_end}
-use Rattle.scan_runs.specs.Ends.{IsLeftFor, IsRightFor, IsSmallEnd}
-use Rattle.scan_runs.specs.Parts.{IsSmallSlant, IsSmallAlong, IsSmallJoint, IsGoodInsertion, IsSoFar, IsWithOct}
+use Rattle.scan_runs.specs.Inner.Ends.{IsLeftFor, IsRightFor, IsSmallEnd}
+use Rattle.scan_runs.specs.Inner.Parts.{IsSmallSlant, IsSmallAlong, IsSmallJoint, IsGoodInsertion, IsSoFar, IsWithOct}
 
 either_small : (e f m : End) → IsSmallEnd e → IsSmallEnd f → ((m ≡ e) ⊎ (m ≡ f)) → IsSmallEnd m
 either_small e f m h k (inl p) = let P : End → Type 0 = λ v. IsSmallEnd v in subst P (sym p) h
 either_small e f m h k (inr p) = let P : End → Type 0 = λ v. IsSmallEnd v in subst P (sym p) k
 
-pub small_joint : (n : ℕ) (a b : Slant) (f t : End) → IsSmallSlant a → IsSmallSlant b → IsLesser n a.from b.from f → IsGreater n a.to b.to t
-    → AreApart n (negsuc 0) b.from a.to → AreApart n (negsuc 0) a.from b.to → IsSmallJoint n a b (record { from = f; to = t })
+pub small_joint : (n : ℕ) (a b : Slant) (f t : End) → IsSmallSlant a → IsSmallSlant b → IsLesserEnd n a.from b.from f → IsGreaterEnd n a.to b.to t
+    → AreEndsApart n (negsuc 0) b.from a.to → AreEndsApart n (negsuc 0) a.from b.to → IsSmallJoint n a b (record { from = f; to = t })
 small_joint n a b f t h k l g u v = record {
   small = record { from = either_small a.from b.from f h.from k.from l.is; to = either_small a.to b.to t h.to k.to g.is };
   joint = joint_law n a b f t l g u v;

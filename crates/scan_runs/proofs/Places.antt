@@ -3,10 +3,10 @@ use Rattle.std.proofs.Common.{◌≡◌, refl, sym, ap, subst, ℕ, zero, suc, �
 use Rattle.std.specs.Prelude.{pos, Option, None, Some, IsNone, IfSome}
 use Rattle.std.proofs.lemmas.List.{drop_all}
 use Rattle.grid_sets.specs.declared.Slant.{Slant}
-use Rattle.scan_runs.specs.Lines.{AreApart}
-use Rattle.scan_runs.specs.Merge.{IsPutIn}
-use Rattle.scan_runs.specs.Parts.{IsSmallSlant, AreSmall, IsGoodInsertion, IsSmallJoint}
-use Rattle.scan_runs.specs.Places.{IsSmallPlace, IsPossible, IsAhead, IsStep, IsLast}
+use Rattle.scan_runs.specs.Inner.Lines.{AreEndsApart}
+use Rattle.scan_runs.specs.Inner.Merge.{IsPutIn}
+use Rattle.scan_runs.specs.Inner.Parts.{IsSmallSlant, AreSmall, IsGoodInsertion, IsSmallJoint}
+use Rattle.scan_runs.specs.Inner.Places.{IsSmallPlace, IsPossible, IsAhead, IsStep, IsLast}
 use Rattle.scan_runs.specs.declared.merge.Place.{Place}
 use Rattle.scan_runs.specs.declared.merge.Place.TheVariants.{Waiting, Placed, Crossing}
 use Rattle.scan_runs.proofs.Merging.{put_alone, put_later, put_first, put_joint}
@@ -21,7 +21,7 @@ small_at (t ∷ ts) zero d a l = a.0
 small_at (t ∷ ts) (suc i) d a l = small_at ts i d a.1 (omega arith)
 
 -- ---- the steps
-pub step_before : (n : ℕ) (s run : Slant) (old : List Slant) → IsSmallSlant s → IsSmallSlant run → AreApart n (pos 2) run.to s.from → IsStep n (Waiting s) run old (old ++ run ∷ []) (Waiting s)
+pub step_before : (n : ℕ) (s run : Slant) (old : List Slant) → IsSmallSlant s → IsSmallSlant run → AreEndsApart n (pos 2) run.to s.from → IsStep n (Waiting s) run old (old ++ run ∷ []) (Waiting s)
 step_before n s run old h k a = record {
   lift = λ rest all p. record { whole = run ∷ all; ahead = put_later n rest all run s a p; same = sym (append_assoc old (run ∷ []) all) };
   small = λ o. small_end old run o k;
@@ -29,7 +29,7 @@ step_before n s run old h k a = record {
   possible = λ u. u;
 }
 
-pub step_after : (n : ℕ) (s run : Slant) (old : List Slant) → IsSmallSlant s → IsSmallSlant run → AreApart n (pos 2) s.to run.from → IsStep n (Waiting s) run old ((old ++ s ∷ []) ++ run ∷ []) Placed
+pub step_after : (n : ℕ) (s run : Slant) (old : List Slant) → IsSmallSlant s → IsSmallSlant run → AreEndsApart n (pos 2) s.to run.from → IsStep n (Waiting s) run old ((old ++ s ∷ []) ++ run ∷ []) Placed
 step_after n s run old h k a = record {
   lift = λ rest all p. record {
     whole = s ∷ run ∷ rest;

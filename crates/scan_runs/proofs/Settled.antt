@@ -5,15 +5,15 @@ use Rattle.std.proofs.lemmas.Int.{ints}
 use Rattle.std.proofs.lemmas.List.{take_more, take_all}
 use Rattle.plane.specs.Narrow.{IsNearZero}
 use Rattle.grid_sets.specs.Rows.{Run, Row}
-use Rattle.grid_sets.specs.Bands.{moved, reach, at, Band, row_of, rows_from, rows_of, AreStill}
+use Rattle.grid_sets.specs.Bands.{place_after, reach, run_down, Band, row_of, rows_from, rows_of, AreStill}
 use Rattle.grid_sets.specs.declared.Move.{Move}
 use Rattle.grid_sets.specs.declared.Move.TheVariants.{Left, Still, Right}
 use Rattle.grid_sets.specs.declared.Slant.{Slant}
 use Rattle.grid_sets.proofs.BandRows.{rows_alike}
-use Rattle.scan_runs.specs.Parts.{IsSmallSlant, AreSmall}
+use Rattle.scan_runs.specs.Inner.Parts.{IsSmallSlant, AreSmall}
 use Rattle.scan_runs.specs.Strips.{band_of}
-use Rattle.scan_runs.specs.Grouping.{IsGoodRun, AreGoodRuns, IsAdvancedRun, AreAdvanced, AreStilled, IsSettled, IsRestOf}
-use Rattle.scan_runs.specs.declared.strip.Strip.{Strip}
+use Rattle.scan_runs.specs.Inner.Grouping.{IsGoodSlant, AreGoodRuns, IsAdvancedRun, AreAdvanced, AreStilled, IsSettled, IsRestOf}
+use Rattle.scan_runs.specs.declared.strip.RowStrip.{RowStrip}
 use Rattle.scan_runs.proofs.Steps.{map_end, good_end}
 
 abbrev run_of : ℤ → ℤ → Run
@@ -34,21 +34,21 @@ small_good (s ∷ ss) h = (
 )
 
 -- ---- a row further down
-moved_on : (m : Move) (k : ℕ) (a : ℤ) → moved m k (moved m 1 a) ≡ moved m (suc k) a
+moved_on : (m : Move) (k : ℕ) (a : ℤ) → place_after m k (place_after m 1 a) ≡ place_after m (suc k) a
 moved_on Left k a = omega (arith, ints)
 moved_on Still k a = refl
 moved_on Right k a = omega (arith, ints)
 
-moved_near : (m : Move) (a : ℤ) → IsNearZero (2 ^ 43) a → IsNearZero (2 ^ 44) (moved m 1 a)
+moved_near : (m : Move) (a : ℤ) → IsNearZero (2 ^ 43) a → IsNearZero (2 ^ 44) (place_after m 1 a)
 moved_near Left a h = record { low = omega (arith, ints); high = omega (arith, ints) }
 moved_near Still a h = record { low = omega (arith, ints); high = omega (arith, ints) }
 moved_near Right a h = record { low = omega (arith, ints); high = omega (arith, ints) }
 
 advanced_at : (s : Slant) (p q : ℤ) → IsSmallSlant s → p ≡ reach 1 s.from → q ≡ reach 1 s.to → IsAdvancedRun s (record { from = record { place = p; go = s.from.go }; to = record { place = q; go = s.to.go } })
 advanced_at s p q h e f = record {
-  rows = λ k. runs_by (moved s.from.go k p) (moved s.to.go k q) (reach (suc k) s.from) (reach (suc k) s.to)
-      (ap (λ (v : ℤ). moved s.from.go k v) e ∙ moved_on s.from.go k s.from.place)
-      (ap (λ (v : ℤ). moved s.to.go k v) f ∙ moved_on s.to.go k s.to.place);
+  rows = λ k. runs_by (place_after s.from.go k p) (place_after s.to.go k q) (reach (suc k) s.from) (reach (suc k) s.to)
+      (ap (λ (v : ℤ). place_after s.from.go k v) e ∙ moved_on s.from.go k s.from.place)
+      (ap (λ (v : ℤ). place_after s.to.go k v) f ∙ moved_on s.to.go k s.to.place);
   good = record {
     from = subst (λ (v : ℤ). IsNearZero (2 ^ 44) v) (sym e) (moved_near s.from.go s.from.place h.from);
     to = subst (λ (v : ℤ). IsNearZero (2 ^ 44) v) (sym f) (moved_near s.to.go s.to.place h.to);
@@ -73,7 +73,7 @@ both rs ts r t e f = cc
 
 advanced_end : (ss ts : List Slant) (s t : Slant) → AreAdvanced ss ts → IsAdvancedRun s t → AreAdvanced (ss ++ s ∷ []) (ts ++ t ∷ [])
 advanced_end ss ts s t a b = record {
-  rows = λ k. map_end (at k) ts t ∙ (both (map (at k) ts) (map (at (suc k)) ss) (at k t) (at (suc k) s) (a.rows k) (b.rows k) ∙ sym (map_end (at (suc k)) ss s));
+  rows = λ k. map_end (run_down k) ts t ∙ (both (map (run_down k) ts) (map (run_down (suc k)) ss) (run_down k t) (run_down (suc k) s) (a.rows k) (b.rows k) ∙ sym (map_end (run_down (suc k)) ss s));
   good = good_end ts t a.good b.good;
 }
 
@@ -84,12 +84,12 @@ pub advanced_all : (i : ℕ) (ss ts : List Slant) → length ss ≤ i → AreAdv
 advanced_all i ss ts l a = subst (λ (v : List Slant). AreAdvanced v ts) (take_all i ss l) a
 
 -- ---- still ends
-moved_zero : (m : Move) (a : ℤ) → a ≡ moved m 0 a
+moved_zero : (m : Move) (a : ℤ) → a ≡ place_after m 0 a
 moved_zero Left a = omega (arith, ints)
 moved_zero Still a = refl
 moved_zero Right a = omega (arith, ints)
 
-still_run : (s t : Slant) → t.from.place ≡ s.from.place → t.from.go ≡ Still → t.to.place ≡ s.to.place → t.to.go ≡ Still → at 0 t ≡ at 0 s
+still_run : (s t : Slant) → t.from.place ≡ s.from.place → t.from.go ≡ Still → t.to.place ≡ s.to.place → t.to.go ≡ Still → run_down 0 t ≡ run_down 0 s
 still_run s t e f g h =
     runs_by (reach 0 t.from) (reach 0 t.to) (reach 0 s.from) (reach 0 s.to)
     (sym (moved_zero t.from.go t.from.place) ∙ (e ∙ moved_zero s.from.go s.from.place))
@@ -102,10 +102,10 @@ still_end : (ss : List Slant) (s : Slant) → AreStill ss → s.from.go ≡ Stil
 still_end [] s a f h = (f, h, tt)
 still_end (t ∷ ts) s a f h = (a.0, a.1, still_end ts s a.2 f h)
 
-stilled_end : (ss ts : List Slant) (s t : Slant) → AreStilled ss ts → IsGoodRun s → t.from.place ≡ s.from.place → t.from.go ≡ Still → t.to.place ≡ s.to.place → t.to.go ≡ Still
+stilled_end : (ss ts : List Slant) (s t : Slant) → AreStilled ss ts → IsGoodSlant s → t.from.place ≡ s.from.place → t.from.go ≡ Still → t.to.place ≡ s.to.place → t.to.go ≡ Still
     → AreStilled (ss ++ s ∷ []) (ts ++ t ∷ [])
 stilled_end ss ts s t a k e f g h = record {
-  rows = map_end (at 0) ts t ∙ (both (map (at 0) ts) (map (at 0) ss) (at 0 t) (at 0 s) a.rows (still_run s t e f g h) ∙ sym (map_end (at 0) ss s));
+  rows = map_end (run_down 0) ts t ∙ (both (map (run_down 0) ts) (map (run_down 0) ss) (run_down 0 t) (run_down 0 s) a.rows (still_run s t e f g h) ∙ sym (map_end (run_down 0) ss s));
   still = still_end ts t a.still f h;
   good = good_end ts t a.good (record {
     from = subst (λ (v : ℤ). IsNearZero (2 ^ 44) v) (sym e) k.from;
@@ -113,7 +113,7 @@ stilled_end ss ts s t a k e f g h = record {
   });
 }
 
-pub stilled_more : (i : ℕ) (ss ts : List Slant) (d t : Slant) → i < length ss → AreStilled (take i ss) ts → IsGoodRun (get_or ss i d)
+pub stilled_more : (i : ℕ) (ss ts : List Slant) (d t : Slant) → i < length ss → AreStilled (take i ss) ts → IsGoodSlant (get_or ss i d)
     → t.from.place ≡ (get_or ss i d).from.place → t.from.go ≡ Still → t.to.place ≡ (get_or ss i d).to.place → t.to.go ≡ Still
     → AreStilled (take (i + 1) ss) (ts ++ t ∷ [])
 stilled_more i ss ts d t l a k e f g h = subst (λ (v : List Slant). AreStilled v (ts ++ t ∷ [])) (sym (take_more ss i d l)) (stilled_end (take i ss) ts (get_or ss i d) t a k e f g h)
@@ -125,7 +125,7 @@ stilled_all i ss ts l a = subst (λ (v : List Slant). AreStilled v ts) (take_all
 abbrev band : ℤ → ℕ → List Slant → Band
 band top more runs = record { top = top; more = more; runs = runs }
 
-pub settled_still : (top : ℤ) (more : ℕ) (runs : List Slant) (s : Strip) → s.top ≡ top → s.more ≡ more → more ≡ 0 → AreStilled runs s.runs.items → IsNearZero (2 ^ 40) top → (top +ℤ pos more) ≤ℤ pos (2 ^ 40)
+pub settled_still : (top : ℤ) (more : ℕ) (runs : List Slant) (s : RowStrip) → s.top ≡ top → s.more ≡ more → more ≡ 0 → AreStilled runs s.runs.items → IsNearZero (2 ^ 40) top → (top +ℤ pos more) ≤ℤ pos (2 ^ 40)
     → IsSettled top more runs s
 settled_still top more runs s e f z a t b = record {
   rows = one_row s.top top s.more more s.runs.items runs e f z a.rows;
@@ -133,17 +133,17 @@ settled_still top more runs s e f z a t b = record {
   small = record { runs = a.good; top = subst (λ (v : ℤ). IsNearZero (2 ^ 40) v) (sym e) t; bottom = omega (arith, ints) };
 }
   where
-    first_rows : (y : ℤ) (ss ts : List Slant) → map (at 0) ss ≡ map (at 0) ts → rows_of (band y 0 ss) ≡ rows_of (band y 0 ts)
+    first_rows : (y : ℤ) (ss ts : List Slant) → map (run_down 0) ss ≡ map (run_down 0) ts → rows_of (band y 0 ss) ≡ rows_of (band y 0 ts)
     first_rows y ss ts g = ap (λ (v : List Run). record { y = y +ℤ pos 0; runs = v } ∷ []) g
 
-    one_row : (y z : ℤ) (n m : ℕ) (ss ts : List Slant) → y ≡ z → n ≡ m → m ≡ 0 → map (at 0) ss ≡ map (at 0) ts → rows_of (band y n ss) ≡ rows_of (band z m ts)
+    one_row : (y z : ℤ) (n m : ℕ) (ss ts : List Slant) → y ≡ z → n ≡ m → m ≡ 0 → map (run_down 0) ss ≡ map (run_down 0) ts → rows_of (band y n ss) ≡ rows_of (band z m ts)
     one_row y z n m ss ts e f g h =
         ap (λ (v : ℤ). rows_of (band v n ss)) e
         ∙ (ap (λ (v : ℕ). rows_of (band z v ss)) (f ∙ g)
         ∙ (first_rows z ss ts h
         ∙ ap (λ (v : ℕ). rows_of (band z v ts)) (sym g)))
 
-pub settled_moving : (top : ℤ) (more : ℕ) (runs : List Slant) (s : Strip) → s.top ≡ top → s.more ≡ more → 1 ≤ more → s.runs.items ≡ runs → AreGoodRuns runs → IsNearZero (2 ^ 40) top → (top +ℤ pos more) ≤ℤ pos (2 ^ 40)
+pub settled_moving : (top : ℤ) (more : ℕ) (runs : List Slant) (s : RowStrip) → s.top ≡ top → s.more ≡ more → 1 ≤ more → s.runs.items ≡ runs → AreGoodRuns runs → IsNearZero (2 ^ 40) top → (top +ℤ pos more) ≤ℤ pos (2 ^ 40)
     → IsSettled top more runs s
 settled_moving top more runs s e f l g a t b = record {
   rows = same s.top top s.more more s.runs.items runs e f g;
@@ -164,7 +164,7 @@ made y rs = record { y = y; runs = rs }
 row_by : (y z : ℤ) (rs ts : List Run) → y ≡ z → rs ≡ ts → made y rs ≡ made z ts
 row_by y z rs ts e f = cc
 
-pub rest_by : (strip rest : Strip) (adv : List Slant) (top : ℤ) (more : ℕ) → top ≡ strip.top +ℤ pos 1 → more + 1 ≡ strip.more → AreAdvanced strip.runs.items adv → IsSettled top more adv rest → IsRestOf strip rest
+pub rest_by : (strip rest : RowStrip) (adv : List Slant) (top : ℤ) (more : ℕ) → top ≡ strip.top +ℤ pos 1 → more + 1 ≡ strip.more → AreAdvanced strip.runs.items adv → IsSettled top more adv rest → IsRestOf strip rest
 rest_by strip rest adv top more e f a k =
     let c = band top more adv in
     let whole : rows_of c ≡ rows_from (band_of strip) 1 strip.more =
@@ -188,9 +188,9 @@ rest_by strip rest adv top more e f a k =
         let g : 1 + i ≡ suc i = omega arith in
         subst (λ (n : ℕ). row_of (band top more adv) n ≡ row_of (band_of strip) (1 + i)) (sym d)
         (subst (λ (n : ℕ). row_of (band top more adv) i ≡ row_of (band_of strip) n) (sym g)
-        (row_by (top +ℤ pos i) (strip.top +ℤ pos (suc i)) (map (at i) adv) (map (at (suc i)) strip.runs.items) (omega (arith, ints, e)) (a.rows i)))
+        (row_by (top +ℤ pos i) (strip.top +ℤ pos (suc i)) (map (run_down i) adv) (map (run_down (suc i)) strip.runs.items) (omega (arith, ints, e)) (a.rows i)))
 
-pub rest_of_by : {E : Type 0} (strip : Strip) (adv : List Slant) (top : ℤ) (more : ℕ) (r : Result Strip E) → top ≡ strip.top +ℤ pos 1 → more + 1 ≡ strip.more → AreAdvanced strip.runs.items adv
+pub rest_of_by : {E : Type 0} (strip : RowStrip) (adv : List Slant) (top : ℤ) (more : ℕ) (r : Result RowStrip E) → top ≡ strip.top +ℤ pos 1 → more + 1 ≡ strip.more → AreAdvanced strip.runs.items adv
     → IfOk r (λ s. IsSettled top more adv s) → IfOk r (λ s. IsRestOf strip s)
 rest_of_by strip adv top more (Err x) e f a k = k
 rest_of_by strip adv top more (Ok s) e f a k = rest_by strip s adv top more e f a k

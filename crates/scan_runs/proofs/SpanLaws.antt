@@ -7,9 +7,9 @@ use Rattle.plane.specs.Plane.{Bounds}
 use Rattle.plane.specs.Narrow.{IsNearZero}
 use Rattle.grid_sets.specs.Rows.{AreRowsOf}
 use Rattle.grid_sets.specs.Points.{HasPoint}
-use Rattle.scan_runs.specs.Strips.{all_rows, IsSpan, IsWiderSpan, AreSmallStrips, AreStrips}
-use Rattle.scan_runs.specs.Cells.{AreInReach}
-use Rattle.scan_runs.specs.declared.strip.Strip.{Strip}
+use Rattle.scan_runs.specs.Strips.{rows_of_strips, IsSpan, IsWiderSpan, AreSmallStrips, AreStripsAdded}
+use Rattle.scan_runs.specs.Cells.{AreAllInReach}
+use Rattle.scan_runs.specs.declared.strip.RowStrip.{RowStrip}
 use Rattle.scan_runs.proofs.Merging.{has_end}
 
 pub span_none : (top bottom : ℤ) → IsNearZero (2 ^ 40) top → IsNearZero (2 ^ 40) bottom → IsSpan [] top bottom
@@ -53,10 +53,10 @@ no_rows_of os top bottom s l = record {
     out : (y : ℤ) → (top ≤ℤ y) × (y ≤ℤ bottom) → ⊥
     out y h = omega (arith, ints, h.0, h.1)
 
-pub all_rows_of : (os : List Bounds) (top bottom t : ℤ) (n : ℕ) (new : List Strip) → IsSpan os top bottom → t ≡ top → bottom ≡ top +ℤ pos n → AreStrips os t n [] new → AreRowsOf (HasPoint os) (all_rows new)
+pub all_rows_of : (os : List Bounds) (top bottom t : ℤ) (n : ℕ) (new : List RowStrip) → IsSpan os top bottom → t ≡ top → bottom ≡ top +ℤ pos n → AreStripsAdded os t n [] new → AreRowsOf (HasPoint os) (rows_of_strips new)
 all_rows_of os top bottom t n new s z e a =
-    let b : AreStrips os top n [] new = subst (λ (v : ℤ). AreStrips os v n [] new) z a in
-    subst (λ (v : List Strip). AreRowsOf (HasPoint os) (all_rows v)) (sym b.added) (record {
+    let b : AreStripsAdded os top n [] new = subst (λ (v : ℤ). AreStripsAdded os v n [] new) z a in
+    subst (λ (v : List RowStrip). AreRowsOf (HasPoint os) (rows_of_strips v)) (sym b.added) (record {
       are = record { top = top; descending = b.rows.descending };
       same = λ x y. (λ h. (b.rows.there x y h).2, λ h. let p = s.points x y h in b.rows.back x y p.0 (low y p.1) h);
     })
@@ -64,11 +64,11 @@ all_rows_of os top bottom t n new s z e a =
     low : (y : ℤ) → y ≤ℤ bottom → y ≤ℤ (top +ℤ pos n)
     low y h = omega (arith, ints, e)
 
-pub all_small : (os : List Bounds) (top : ℤ) (n : ℕ) (new : List Strip) → AreStrips os top n [] new → AreSmallStrips new
+pub all_small : (os : List Bounds) (top : ℤ) (n : ℕ) (new : List RowStrip) → AreStripsAdded os top n [] new → AreSmallStrips new
 all_small os top n new a = subst AreSmallStrips (sym a.added) a.small
 
 -- ---- all points are within reach
-pub span_in_reach : (os : List Bounds) (top bottom : ℤ) → IsSpan os top bottom → AreInReach os
+pub span_in_reach : (os : List Bounds) (top bottom : ℤ) → IsSpan os top bottom → AreAllInReach os
 span_in_reach os top bottom s = record {
   x = s.across;
   y = λ x y h. let p = s.points x y h in record { low = omega (arith, ints, p.0, s.first.low); high = omega (arith, ints, p.1, s.last.high) };

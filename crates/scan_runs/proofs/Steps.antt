@@ -5,16 +5,16 @@ use Rattle.std.proofs.lemmas.Int.{ints}
 use Rattle.std.proofs.lemmas.List.{take_more, take_all}
 use Rattle.plane.specs.Narrow.{IsNearZero}
 use Rattle.grid_sets.specs.Rows.{Run}
-use Rattle.grid_sets.specs.Bands.{moved, reach, at, IsMovedAlike, AreMovedAlike}
+use Rattle.grid_sets.specs.Bands.{place_after, reach, run_down, IsMovedAlike, AreMovedAlike}
 use Rattle.grid_sets.specs.declared.Move.{Move}
 use Rattle.grid_sets.specs.declared.Move.TheVariants.{Left, Still, Right}
 use Rattle.grid_sets.specs.declared.End.{End}
 use Rattle.grid_sets.specs.declared.Slant.{Slant}
-use Rattle.scan_runs.specs.Ends.{IsSmallEnd}
-use Rattle.scan_runs.specs.Grouping.{IsGoodEnd, IsGoodRun, AreGoodRuns, IsStepTo, HasNoStep, AreSteps, HaveNoSteps}
+use Rattle.scan_runs.specs.Inner.Ends.{IsSmallEnd}
+use Rattle.scan_runs.specs.Inner.Grouping.{IsGoodEnd, IsGoodSlant, AreGoodRuns, IsStepTo, HasNoStep, AreSteps, HaveNoSteps}
 
 -- ---- places that the code can count with
-moved_good : (m : Move) (k : ℕ) (a : ℤ) → k ≤ 2 ^ 42 → IsNearZero (2 ^ 44) a → IsNearZero (2 ^ 45) (moved m k a)
+moved_good : (m : Move) (k : ℕ) (a : ℤ) → k ≤ 2 ^ 42 → IsNearZero (2 ^ 44) a → IsNearZero (2 ^ 45) (place_after m k a)
 moved_good Left k a h i = record { low = omega (arith, ints); high = omega (arith, ints) }
 moved_good Still k a h i = record { low = omega (arith, ints); high = omega (arith, ints) }
 moved_good Right k a h i = record { low = omega (arith, ints); high = omega (arith, ints) }
@@ -25,7 +25,7 @@ kept r h = record { low = omega (arith, ints); high = omega (arith, ints) }
 pub place_good : (e : End) (k : ℕ) (r : ℤ) → k ≤ 2 ^ 41 → IsGoodEnd e → r ≡ reach k e → IsNearZero (2 ^ 45) (to_z w64 (of_z w64 r))
 place_good e k r l h q = kept r (subst (λ (v : ℤ). IsNearZero (2 ^ 45) v) (sym q) (moved_good e.go k e.place (omega arith) h))
 
-moved_none : (m : Move) (a : ℤ) → IsNearZero (2 ^ 43) a → IsNearZero (2 ^ 43) (moved m 0 a)
+moved_none : (m : Move) (a : ℤ) → IsNearZero (2 ^ 43) a → IsNearZero (2 ^ 43) (place_after m 0 a)
 moved_none Left a h = record { low = omega (arith, ints); high = omega (arith, ints) }
 moved_none Still a h = h
 moved_none Right a h = record { low = omega (arith, ints); high = omega (arith, ints) }
@@ -41,11 +41,11 @@ pub map_end : (f : Slant → Run) (ss : List Slant) (s : Slant) → map f (ss ++
 map_end f [] s = refl
 map_end f (t ∷ ts) s = ap (λ (v : List Run). f t ∷ v) (map_end f ts s)
 
-pub good_end : (ss : List Slant) (s : Slant) → AreGoodRuns ss → IsGoodRun s → AreGoodRuns (ss ++ s ∷ [])
+pub good_end : (ss : List Slant) (s : Slant) → AreGoodRuns ss → IsGoodSlant s → AreGoodRuns (ss ++ s ∷ [])
 good_end [] s a g = (g, tt)
 good_end (t ∷ ts) s a g = (a.0, good_end ts s a.1 g)
 
-pub good_at : (ss : List Slant) (i : ℕ) (d : Slant) → AreGoodRuns ss → i < length ss → IsGoodRun (get_or ss i d)
+pub good_at : (ss : List Slant) (i : ℕ) (d : Slant) → AreGoodRuns ss → i < length ss → IsGoodSlant (get_or ss i d)
 good_at [] i d a l = absurd (omega arith)
 good_at (t ∷ ts) zero d a l = a.0
 good_at (t ∷ ts) (suc i) d a l = good_at ts i d a.1 (omega arith)
@@ -55,8 +55,8 @@ steps_first n = record { last = refl; new = refl; small = tt }
 
 step_more : (n : ℕ) (upper lower ss : List Slant) (a b s : Slant) → AreSteps n upper lower ss → IsStepTo n a b s → AreSteps n (upper ++ a ∷ []) (lower ++ b ∷ []) (ss ++ s ∷ [])
 step_more n upper lower ss a b s h k = record {
-  last = map_end (at 0) ss s ∙ (both (map (at 0) ss) (map (at n) upper) (at 0 s) (at n a) h.last k.last ∙ sym (map_end (at n) upper a));
-  new = map_end (at 1) ss s ∙ (both (map (at 1) ss) (map (at 0) lower) (at 1 s) (at 0 b) h.new k.new ∙ sym (map_end (at 0) lower b));
+  last = map_end (run_down 0) ss s ∙ (both (map (run_down 0) ss) (map (run_down n) upper) (run_down 0 s) (run_down n a) h.last k.last ∙ sym (map_end (run_down n) upper a));
+  new = map_end (run_down 1) ss s ∙ (both (map (run_down 1) ss) (map (run_down 0) lower) (run_down 1 s) (run_down 0 b) h.new k.new ∙ sym (map_end (run_down 0) lower b));
   small = good_end ss s h.small k.good;
 }
   where
@@ -80,12 +80,12 @@ steps_stop n i [] lower d e l m h ss p q = absurd (omega arith)
 steps_stop n i (a ∷ as_) [] d e l m h ss p q = absurd (omega arith)
 steps_stop n i (a ∷ as_) (b ∷ bs) d e l m h [] p q = cc
 steps_stop n zero (a ∷ as_) (b ∷ bs) d e l m h (s ∷ ss) p q =
-    let u : at 0 s ≡ at n a = cc in
-    let v : at 1 s ≡ at 0 b = cc in
+    let u : run_down 0 s ≡ run_down n a = cc in
+    let v : run_down 1 s ≡ run_down 0 b = cc in
     h s u v
 steps_stop n (suc i) (a ∷ as_) (b ∷ bs) d e l m h (s ∷ ss) p q =
-    let u : map (at 0) ss ≡ map (at n) as_ = cc in
-    let v : map (at 1) ss ≡ map (at 0) bs = cc in
+    let u : map (run_down 0) ss ≡ map (run_down n) as_ = cc in
+    let v : map (run_down 1) ss ≡ map (run_down 0) bs = cc in
     steps_stop n i as_ bs d e (omega arith) (omega arith) h ss u v
 
 map_length : (f : Slant → Run) (ss : List Slant) → length (map f ss) ≡ length ss
@@ -94,7 +94,7 @@ map_length f (s ∷ ss) = ap suc (map_length f ss)
 
 pub steps_uneven : (n : ℕ) (upper lower : List Slant) → (length upper ≡ length lower → ⊥) → HaveNoSteps n upper lower
 steps_uneven n upper lower h ss p q =
-    h (sym (map_length (at n) upper) ∙ (sym (ap length p) ∙ (map_length (at 0) ss ∙ (sym (map_length (at 1) ss) ∙ (ap length q ∙ map_length (at 0) lower)))))
+    h (sym (map_length (run_down n) upper) ∙ (sym (ap length p) ∙ (map_length (run_down 0) ss ∙ (sym (map_length (run_down 1) ss) ∙ (ap length q ∙ map_length (run_down 0) lower)))))
 
 -- ---- the same moves, run by run
 alike_more : (ss ts : List Slant) (s t : Slant) → AreMovedAlike ss ts → IsMovedAlike s t → AreMovedAlike (ss ++ s ∷ []) (ts ++ t ∷ [])

@@ -5,11 +5,11 @@ ghost use Rattle.plane.specs.Plane.{IsOct};
 ghost use Rattle.plane.specs.Narrow.{IsNearZero};
 ghost use Rattle.grid_sets.specs.Cells.{cell_of, cells_of};
 ghost use Rattle.scan_runs.specs.Strips.{band_of};
-ghost use Rattle.scan_runs.specs.Grouping.{IsGoodRun, IsGoodBand, AreGoodBands};
+ghost use Rattle.scan_runs.specs.Inner.Grouping.{IsGoodSlant, IsGoodBand, AreGoodBands};
 ghost use Rattle.scan_runs.specs.Cells.{run_cells, numbered_cells};
 
 use crate::ends::place_at;
-use crate::strip::Strip;
+use crate::strip::RowStrip;
 use grid_num::{Memory, Point};
 use grid_sets::Slant;
 use octagon::Oct;
@@ -25,7 +25,7 @@ pub struct Cell {
 }
 
 // The cells of the bands, in order. More bands or runs than a number can count are refused like want of memory.
-pub(crate) fn numbered(alloc: Global, bands: &[Strip]) -> Result<Vec<Cell>, Memory>
+pub(crate) fn numbered(alloc: Global, bands: &[RowStrip]) -> Result<Vec<Cell>, Memory>
     requires bands { AreGoodBands bands.now }
     requires octs { All IsOct (cells_of (map band_of bands.now)) }
     ensures { IfOk result (λ cells. cells.items ≡ numbered_cells 0 (map band_of bands.now)) }
@@ -47,7 +47,7 @@ fn number(i: usize) -> Result<u32, Memory>
 }
 
 // Adds the cells of one band.
-fn add_cells(cells: &mut Vec<Cell>, strip: &Strip, band: u32) -> Result<(), Memory>
+fn add_cells(cells: &mut Vec<Cell>, strip: &RowStrip, band: u32) -> Result<(), Memory>
     requires strip { IsGoodBand strip.now }
     requires octs { All IsOct (map (cell_of strip.now.top strip.now.more) strip.now.runs.items) }
     ensures { IfOk result (λ _. cells.new.items ≡ cells.old.items ++ run_cells (band_of strip.now) band 0 strip.now.runs.items) }
@@ -64,7 +64,7 @@ fn add_cells(cells: &mut Vec<Cell>, strip: &Strip, band: u32) -> Result<(), Memo
 fn octagon_of(top: i64, more: u64, run: Slant) -> Oct
     requires top { IsNearZero (2 ^ 40) top }
     requires bottom { (top +ℤ pos more) ≤ℤ pos (2 ^ 40) }
-    requires run { IsGoodRun run }
+    requires run { IsGoodSlant run }
     requires oct { IsOct (cell_of top more run) }
     ensures { result ≡ cell_of top more run }
 {

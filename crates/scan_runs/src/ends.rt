@@ -2,8 +2,8 @@
 ghost use Rattle.std.specs.Prelude.{◌≡◌, ◌⊎◌, ℕ, ◌^◌, ◌≤◌, pos, ◌+ℤ◌, ◌≤ℤ◌, ◌<ℤ◌, IsTrue, IsNone, IfSome, false};
 ghost use Rattle.plane.specs.Narrow.{IsNearZero};
 ghost use Rattle.grid_sets.specs.Bands.{reach};
-ghost use Rattle.scan_runs.specs.Lines.{AreApart, IsLesser, IsGreater};
-ghost use Rattle.scan_runs.specs.Ends.{IsSmallEnd, IsLeftFor, IsRightFor};
+ghost use Rattle.scan_runs.specs.Inner.Lines.{AreEndsApart, IsLesserEnd, IsGreaterEnd};
+ghost use Rattle.scan_runs.specs.Inner.Ends.{IsSmallEnd, IsLeftFor, IsRightFor};
 
 use grid_sets::{End, Move};
 
@@ -105,7 +105,7 @@ pub(crate) fn is_apart(e: End, f: End, gap: i64, more: u64) -> bool
     requires f { IsSmallEnd f }
     requires gap { IsNearZero 2 gap }
     requires more { more ≤ 2 ^ 42 }
-    ensures yes { IsTrue result → AreApart more gap e f }
+    ensures yes { IsTrue result → AreEndsApart more gap e f }
     ensures no { result ≡ false → more ≡ 0 → reach 0 f <ℤ (reach 0 e +ℤ gap) }
 {
     let e_first = place_at(e, 0);
@@ -131,7 +131,7 @@ pub(crate) fn lesser_end(e: End, f: End, more: u64) -> Option<End>
     requires e { IsSmallEnd e }
     requires f { IsSmallEnd f }
     requires more { more ≤ 2 ^ 42 }
-    ensures some { IfSome result (IsLesser more e f) }
+    ensures some { IfSome result (IsLesserEnd more e f) }
     ensures none { IsNone result → 1 ≤ more }
 {
     if is_apart(e, f, 0, more) {
@@ -148,7 +148,7 @@ pub(crate) fn greater_end(e: End, f: End, more: u64) -> Option<End>
     requires e { IsSmallEnd e }
     requires f { IsSmallEnd f }
     requires more { more ≤ 2 ^ 42 }
-    ensures some { IfSome result (IsGreater more e f) }
+    ensures some { IfSome result (IsGreaterEnd more e f) }
     ensures none { IsNone result → 1 ≤ more }
 {
     if is_apart(f, e, 0, more) {

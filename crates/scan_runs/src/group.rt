@@ -2,20 +2,20 @@
 // begins a new one. A strip's rows below its first join whatever that one joined or began, if the moves agree.
 ghost use Rattle.std.specs.Prelude.{◌≡◌, ◌≤◌, List, [], ◌∷◌, ◌++◌, IsTrue, IfSome, IsNone, IfOk, false};
 ghost use Rattle.grid_sets.specs.Bands.{row_of, AreMovedAlike, IsJoining};
-ghost use Rattle.scan_runs.specs.Strips.{band_of, all_rows, IsSmallStrip, AreSmallStrips};
-ghost use Rattle.scan_runs.specs.Grouping.{IsGoodBand, AreGoodBands, AreGrouped, IsTakenIn, IsLongerStrip, IsRestTaken, IsJoinedSteps, IsExtended};
+ghost use Rattle.scan_runs.specs.Strips.{band_of, rows_of_strips, IsSmallStrip, AreSmallStrips};
+ghost use Rattle.scan_runs.specs.Inner.Grouping.{IsGoodBand, AreGoodBands, AreGrouped, IsTakenIn, IsLongerStrip, IsRestTaken, IsJoinedSteps, IsBandExtended};
 
 use crate::settle::{rest_of, settled};
 use crate::step::{alike, steps_to};
-use crate::strip::Strip;
+use crate::strip::RowStrip;
 use grid_num::Memory;
 use grid_sets::Slant;
 use std::alloc::Global;
 
 // The greedy bands of the strips' rows.
-pub(crate) fn group(alloc: Global, strips: &[Strip]) -> Result<Vec<Strip>, Memory>
+pub(crate) fn group(alloc: Global, strips: &[RowStrip]) -> Result<Vec<RowStrip>, Memory>
     requires { AreSmallStrips strips.now }
-    ensures { IfOk result (λ bands. AreGrouped (all_rows strips.now) bands.items) }
+    ensures { IfOk result (λ bands. AreGrouped (rows_of_strips strips.now) bands.items) }
 {
     let mut bands = Vec::new(alloc);
     'strips: for strip in strips {
@@ -25,7 +25,7 @@ pub(crate) fn group(alloc: Global, strips: &[Strip]) -> Result<Vec<Strip>, Memor
 }
 
 // Takes in the rows of one strip.
-fn take_in(alloc: Global, bands: &mut Vec<Strip>, strip: &Strip) -> Result<(), Memory>
+fn take_in(alloc: Global, bands: &mut Vec<RowStrip>, strip: &RowStrip) -> Result<(), Memory>
     requires strip { IsSmallStrip strip.now }
     requires bands { AreGoodBands bands.old.items }
     ensures { IfOk result (λ _. IsTakenIn strip.now bands.old.items bands.new.items) }
@@ -40,7 +40,12 @@ fn take_in(alloc: Global, bands: &mut Vec<Strip>, strip: &Strip) -> Result<(), M
 }
 
 // Puts the rows of the strip below the last band, which is not among the others.
-fn follow(alloc: Global, bands: &mut Vec<Strip>, last: Strip, strip: &Strip) -> Result<(), Memory>
+fn follow(
+    alloc: Global,
+    bands: &mut Vec<RowStrip>,
+    last: RowStrip,
+    strip: &RowStrip,
+) -> Result<(), Memory>
     requires strip { IsSmallStrip strip.now }
     requires last { IsGoodBand last }
     ensures { IfOk result (λ _. IsTakenIn strip.now (bands.old.items ++ last ∷ []) bands.new.items) }
@@ -56,7 +61,7 @@ fn follow(alloc: Global, bands: &mut Vec<Strip>, last: Strip, strip: &Strip) -> 
 }
 
 // The steps with which the strip's first row joins the band.
-fn joined(alloc: Global, last: &Strip, strip: &Strip) -> Result<Option<Vec<Slant>>, Memory>
+fn joined(alloc: Global, last: &RowStrip, strip: &RowStrip) -> Result<Option<Vec<Slant>>, Memory>
     requires strip { IsSmallStrip strip.now }
     requires last { IsGoodBand last.now }
     ensures some { IfOk result (λ r. IfSome r (λ steps. IsJoinedSteps (band_of last.now) (row_of (band_of strip.now) 0) steps.items)) }
@@ -77,7 +82,7 @@ fn joined(alloc: Global, last: &Strip, strip: &Strip) -> Result<Option<Vec<Slant
 }
 
 // Whether the steps are the band's moves, if it has any.
-fn keeps_moves(last: &Strip, steps: &[Slant]) -> bool
+fn keeps_moves(last: &RowStrip, steps: &[Slant]) -> bool
     ensures yes { IsTrue result → 1 ≤ last.now.more → AreMovedAlike steps.now last.now.runs.items }
     ensures no { result ≡ false → (1 ≤ last.now.more) × ¬ (AreMovedAlike steps.now last.now.runs.items) }
 {
@@ -88,20 +93,20 @@ fn keeps_moves(last: &Strip, steps: &[Slant]) -> bool
 }
 
 // The band with the strip's first row. The second row of a band sets its moves.
-fn longer(last: Strip, strip: &Strip, steps: Vec<Slant>) -> Strip
+fn longer(last: RowStrip, strip: &RowStrip, steps: Vec<Slant>) -> RowStrip
     requires strip { IsSmallStrip strip.now }
     requires last { IsGoodBand last }
     requires steps { IsJoinedSteps (band_of last) (row_of (band_of strip.now) 0) steps.items }
     ensures { IsLongerStrip last (row_of (band_of strip.now) 0) result }
 {
     if last.more == 0 {
-        return Strip {
+        return RowStrip {
             top: last.top,
             more: 1,
             runs: steps,
         };
     }
-    Strip {
+    RowStrip {
         top: last.top,
         more: last.more + 1,
         runs: last.runs,
@@ -111,9 +116,9 @@ fn longer(last: Strip, strip: &Strip, steps: Vec<Slant>) -> Strip
 // Puts the rows of the strip below its first one, which is the band's last row.
 fn follow_rest(
     alloc: Global,
-    bands: &mut Vec<Strip>,
-    band: Strip,
-    strip: &Strip,
+    bands: &mut Vec<RowStrip>,
+    band: RowStrip,
+    strip: &RowStrip,
 ) -> Result<(), Memory>
     requires strip { IsSmallStrip strip.now }
     requires band { IsGoodBand band }
@@ -135,13 +140,13 @@ fn follow_rest(
 }
 
 // The band with as many rows more as the strip has below its first one.
-fn extended(band: Strip, strip: &Strip) -> Strip
+fn extended(band: RowStrip, strip: &RowStrip) -> RowStrip
     requires strip { IsSmallStrip strip.now }
     requires band { IsGoodBand band }
     requires last { row_of (band_of band) band.more ≡ row_of (band_of strip.now) 0 }
-    ensures { IsExtended strip.now band result }
+    ensures { IsBandExtended strip.now band result }
 {
-    Strip {
+    RowStrip {
         top: band.top,
         more: band.more + strip.more,
         runs: band.runs,

@@ -7,8 +7,8 @@
 ghost use Rattle.std.specs.Prelude.{◌≡◌, [], ℤ, IfOk};
 ghost use Rattle.grid_sets.specs.Rows.{AreRowsOf};
 ghost use Rattle.grid_sets.specs.Points.{HasPoint};
-ghost use Rattle.scan_runs.specs.Strips.{all_rows, AreSmallStrips};
-ghost use Rattle.scan_runs.specs.Cells.{AreCellsOf, AreInReach, CellsOnceLaw, NoCellsLaw, TilesLaw};
+ghost use Rattle.scan_runs.specs.Strips.{rows_of_strips, AreSmallStrips};
+ghost use Rattle.scan_runs.specs.Cells.{AreCellsOf, AreAllInReach, HasNoPoint, CellsOnceLaw, NoCellsLaw, TilesLaw};
 
 mod cell;
 mod ends;
@@ -21,8 +21,6 @@ mod span;
 mod split;
 mod step;
 mod strip;
-#[cfg(test)]
-mod tests;
 
 use crate::cell::numbered;
 use crate::group::group;
@@ -32,14 +30,14 @@ pub use cell::Cell;
 use grid_num::Memory;
 use octagon::Oct;
 use std::alloc::Global;
-pub use strip::Strip;
+pub use strip::RowStrip;
 
 /// The cells of the octagons' grid points: the runs through the greedy bands of their rows, band by band from the top and
 /// in each band from left to right. Octagons may overlap. Refuses for want of memory alone, or where there are 2^32 bands
 /// or runs of a band.
 pub fn cells_of(alloc: Global, octs: &[Oct]) -> Result<Vec<Cell>, Memory>
     ensures cells { IfOk result (λ cells. AreCellsOf (HasPoint octs.now) cells.items) }
-    ensures none { IfOk result (λ cells. ((x y : ℤ) → ¬ (HasPoint octs.now x y)) → cells.items ≡ []) }
+    ensures none { IfOk result (λ cells. HasNoPoint octs.now → cells.items ≡ []) }
 {
     let strips = strips_of(alloc, octs)?;
     let bands = group(alloc, &strips)?;
@@ -56,10 +54,10 @@ pub fn cells_law()
 
 /// The rows of the octagons' grid points, from the top, in strips. Octagons may overlap. A row's runs are maximal, and a
 /// row without points is in no strip. Refuses for want of memory alone.
-pub fn strips_of(alloc: Global, octs: &[Oct]) -> Result<Vec<Strip>, Memory>
-    ensures rows { IfOk result (λ strips. AreRowsOf (HasPoint octs.now) (all_rows strips.items)) }
+pub fn strips_of(alloc: Global, octs: &[Oct]) -> Result<Vec<RowStrip>, Memory>
+    ensures rows { IfOk result (λ strips. AreRowsOf (HasPoint octs.now) (rows_of_strips strips.items)) }
     ensures small { IfOk result (λ strips. AreSmallStrips strips.items) }
-    ensures reach { AreInReach octs.now }
+    ensures reach { AreAllInReach octs.now }
 {
     let mut out = Vec::new(alloc);
     let span = span_of(octs);

@@ -1,8 +1,8 @@
 // Putting a run among the runs of a stretch, from left to right: those that it touches are joined to it.
 ghost use Rattle.std.specs.Prelude.{◌≡◌, ℕ, ◌^◌, ◌≤◌, IfOk, IfSome, IsNone};
 ghost use Rattle.scan_runs.specs.declared.merge.Place.TheVariants.{Waiting, Placed, Crossing};
-ghost use Rattle.scan_runs.specs.Parts.{IsSmallSlant, AreSmall, IsGoodInsertion};
-ghost use Rattle.scan_runs.specs.Places.{IsSmallPlace, IsStep, IsLast};
+ghost use Rattle.scan_runs.specs.Inner.Parts.{IsSmallSlant, AreSmall, IsGoodInsertion};
+ghost use Rattle.scan_runs.specs.Inner.Places.{IsSmallPlace, IsStep, IsLast};
 
 use crate::relation::{Relation, related};
 use grid_num::Memory;

@@ -1,8 +1,8 @@
 // What an octagon is on a stretch of rows.
 ghost use Rattle.std.specs.Prelude.{ℕ, ◌^◌, ◌≤◌, pos, ◌+ℤ◌, ◌≤ℤ◌};
 ghost use Rattle.plane.specs.Narrow.{IsNearZero};
-ghost use Rattle.scan_runs.specs.Ends.{IsLeftFor};
-ghost use Rattle.scan_runs.specs.Parts.{IsPart};
+ghost use Rattle.scan_runs.specs.Inner.Ends.{IsLeftFor};
+ghost use Rattle.scan_runs.specs.Inner.Parts.{IsOctPart};
 
 use crate::ends::{left_of, right_of};
 use grid_sets::{End, Slant};
@@ -20,7 +20,7 @@ pub(crate) enum Part {
 pub(crate) fn part_of(o: &Oct, top: i64, more: u64) -> Part
     requires top { IsNearZero (2 ^ 40) top }
     requires more { more ≤ 2 ^ 41 }
-    ensures { IsPart o.now top more result }
+    ensures { IsOctPart o.now top more result }
 {
     let bottom = top + more as i64;
     let y0 = o.y0();
@@ -53,7 +53,7 @@ fn ended(o: &Oct, top: i64, more: u64, from: End) -> Part
     requires high { o.now.y0 ≤ℤ top }
     requires low { (top +ℤ pos more) ≤ℤ o.now.y1 }
     requires from { IsLeftFor o.now.x0 o.now.s0 o.now.d0 top more from }
-    ensures { IsPart o.now top more result }
+    ensures { IsOctPart o.now top more result }
 {
     let x1 = o.x1();
     let s1 = o.s1();

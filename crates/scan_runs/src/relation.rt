@@ -1,6 +1,6 @@
 // How two runs lie to each other on a stretch of rows.
 ghost use Rattle.std.specs.Prelude.{ℕ, ◌^◌, ◌≤◌};
-ghost use Rattle.scan_runs.specs.Parts.{IsSmallSlant, IsRelation};
+ghost use Rattle.scan_runs.specs.Inner.Parts.{IsSmallSlant, IsRelation};
 
 use crate::ends::{greater_end, is_apart, lesser_end};
 use grid_sets::Slant;

@@ -2,18 +2,23 @@
 ghost use Rattle.std.specs.Prelude.{◌≡◌, ℕ, ◌^◌, ◌≤◌, pos, ◌+ℤ◌, ◌≤ℤ◌, IfOk};
 ghost use Rattle.plane.specs.Narrow.{IsNearZero};
 ghost use Rattle.grid_sets.specs.declared.Move.TheVariants.{Still};
-ghost use Rattle.scan_runs.specs.Parts.{IsSmallSlant, AreSmall};
+ghost use Rattle.scan_runs.specs.Inner.Parts.{IsSmallSlant, AreSmall};
 ghost use Rattle.scan_runs.specs.Strips.{IsSmallStrip};
-ghost use Rattle.scan_runs.specs.Grouping.{AreGoodRuns, AreStilled, IsAdvancedRun, AreAdvanced, IsSettled, IsRestOf};
+ghost use Rattle.scan_runs.specs.Inner.Grouping.{AreGoodRuns, AreStilled, IsAdvancedRun, AreAdvanced, IsSettled, IsRestOf};
 
 use crate::ends::place_at;
-use crate::strip::Strip;
+use crate::strip::RowStrip;
 use grid_num::Memory;
 use grid_sets::{End, Move, Slant};
 use std::alloc::Global;
 
 // The strip as a band.
-pub(crate) fn settled(alloc: Global, top: i64, more: u64, runs: &[Slant]) -> Result<Strip, Memory>
+pub(crate) fn settled(
+    alloc: Global,
+    top: i64,
+    more: u64,
+    runs: &[Slant],
+) -> Result<RowStrip, Memory>
     requires top { IsNearZero (2 ^ 40) top }
     requires bottom { (top +ℤ pos more) ≤ℤ pos (2 ^ 40) }
     requires runs { AreGoodRuns runs.now }
@@ -24,7 +29,7 @@ pub(crate) fn settled(alloc: Global, top: i64, more: u64, runs: &[Slant]) -> Res
     } else {
         Vec::from_slice(alloc, runs)?
     };
-    Ok(Strip { top, more, runs })
+    Ok(RowStrip { top, more, runs })
 }
 
 // The runs of one row with ends that are still.
@@ -53,7 +58,7 @@ fn still(e: End) -> End
 }
 
 // The strip without its first row, as a band.
-pub(crate) fn rest_of(alloc: Global, strip: &Strip) -> Result<Strip, Memory>
+pub(crate) fn rest_of(alloc: Global, strip: &RowStrip) -> Result<RowStrip, Memory>
     requires strip { IsSmallStrip strip.now }
     requires more { 1 ≤ strip.now.more }
     ensures { IfOk result (λ rest. IsRestOf strip.now rest) }

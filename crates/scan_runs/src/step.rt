@@ -2,8 +2,8 @@
 ghost use Rattle.std.specs.Prelude.{◌≡◌, ℕ, ◌^◌, ◌≤◌, IsTrue, IsNone, IfSome, IfOk, false};
 ghost use Rattle.plane.specs.Narrow.{IsNearZero};
 ghost use Rattle.grid_sets.specs.Bands.{reach, IsMovedAlike, AreMovedAlike};
-ghost use Rattle.scan_runs.specs.Parts.{IsSmallSlant, AreSmall};
-ghost use Rattle.scan_runs.specs.Grouping.{IsGoodEnd, IsGoodRun, AreGoodRuns, IsEndStep, HasNoEndStep, IsStepTo, HasNoStep, AreSteps, HaveNoSteps};
+ghost use Rattle.scan_runs.specs.Inner.Parts.{IsSmallSlant, AreSmall};
+ghost use Rattle.scan_runs.specs.Inner.Grouping.{IsGoodEnd, IsGoodSlant, AreGoodRuns, IsEndStep, HasNoEndStep, IsStepTo, HasNoStep, AreSteps, HaveNoSteps};
 
 use crate::ends::place_at;
 use grid_num::Memory;
@@ -40,7 +40,7 @@ fn end_step(from: i64, to: i64) -> Option<End>
 
 // The run that is the upper one's place `more` rows below its first, and then the lower one's first place.
 fn step_to(upper: Slant, more: u64, lower: Slant) -> Option<Slant>
-    requires upper { IsGoodRun upper }
+    requires upper { IsGoodSlant upper }
     requires more { more ≤ 2 ^ 41 }
     requires lower { IsSmallSlant lower }
     ensures some { IfSome result (IsStepTo more upper lower) }

@@ -1,8 +1,8 @@
 // The rows of octagons in strips: neighbouring rows whose run ends move in straight lines.
 ghost use Rattle.std.specs.Prelude.{◌≡◌, ◌⊎◌, ℕ, ◌^◌, ◌≤◌, List, [], ◌∷◌, ◌++◌, pos, ◌+ℤ◌, ◌≤ℤ◌, ◌<ℤ◌, IsNone, IfSome, IfOk, false};
 ghost use Rattle.plane.specs.Narrow.{IsNearZero};
-ghost use Rattle.scan_runs.specs.Parts.{AreSmall, IsSoFar, IsWithOct, AreOpen, IsKeptOpen};
-ghost use Rattle.scan_runs.specs.Strips.{AreStrips};
+ghost use Rattle.scan_runs.specs.Inner.Parts.{AreSmall, IsSoFar, IsWithOct, AreOpenOnRows, IsKeptOpen};
+ghost use Rattle.scan_runs.specs.Strips.{AreStripsAdded};
 
 use crate::merge::inserted;
 use crate::part::{Part, part_of};
@@ -15,7 +15,7 @@ use std::alloc::Global;
 /// A row and `more` rows below it: their first y, and the runs of the first row with their moves from each row to the
 /// next.
 #[derive(Drop)]
-pub struct Strip {
+pub struct RowStrip {
     pub top: i64,
     pub more: u64,
     pub runs: Vec<Slant>,
@@ -27,12 +27,12 @@ pub(crate) fn strips(
     octs: &[Oct],
     top: i64,
     more: u64,
-    out: &mut Vec<Strip>,
+    out: &mut Vec<RowStrip>,
 ) -> Result<(), Memory>
     requires top { IsNearZero (2 ^ 40) top }
     requires bottom { (top +ℤ pos more) ≤ℤ pos (2 ^ 40) }
     requires more { more ≤ 2 ^ 41 }
-    ensures { IfOk result (λ _. AreStrips octs.now top more out.old.items out.new.items) }
+    ensures { IfOk result (λ _. AreStripsAdded octs.now top more out.old.items out.new.items) }
 {
     let near = open_of(alloc, octs, top, more)?;
     if let Some(runs) = straight(alloc, &near, top, more)? {
@@ -49,7 +49,7 @@ pub(crate) fn strips(
 fn open_of(alloc: Global, octs: &[Oct], top: i64, more: u64) -> Result<Vec<Oct>, Memory>
     requires top { IsNearZero (2 ^ 40) top }
     requires more { more ≤ 2 ^ 41 }
-    ensures { IfOk result (λ some. AreOpen octs.now top more some.items) }
+    ensures { IfOk result (λ some. AreOpenOnRows octs.now top more some.items) }
 {
     let mut near = Vec::new(alloc);
     let bottom = top + more as i64;
@@ -115,13 +115,13 @@ fn with_oct(
 }
 
 // Adds the strip, if it has runs.
-fn add(out: &mut Vec<Strip>, top: i64, more: u64, runs: Vec<Slant>) -> Result<(), Memory>
+fn add(out: &mut Vec<RowStrip>, top: i64, more: u64, runs: Vec<Slant>) -> Result<(), Memory>
     ensures none { IfOk result (λ _. runs.items ≡ [] → out.new.items ≡ out.old.items) }
     ensures some { IfOk result (λ _. ¬ (runs.items ≡ []) → out.new.items ≡ out.old.items ++ record { top = top; more = more; runs = runs } ∷ []) }
 {
     if runs.is_empty() {
         return Ok(());
     }
-    out.push(Strip { top, more, runs })?;
+    out.push(RowStrip { top, more, runs })?;
     Ok(())
 }

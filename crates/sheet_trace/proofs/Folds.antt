@@ -4,8 +4,8 @@ use Rattle.std.proofs.lemmas.List.{append-nil, append_assoc}
 use Rattle.grid_num.specs.declared.Point.{Point}
 use Rattle.strips.specs.declared.Strip.{Strip}
 use Rattle.sheet_trace.specs.declared.edge.BoundaryEdge.{BoundaryEdge}
-use Rattle.sheet_trace.specs.Edges.{left_side, right_side, sides_of, ends_of}
-use Rattle.sheet_trace.specs.Levels.{level_between, level_parts}
+use Rattle.sheet_trace.specs.Edges.{left_side, right_side, strip_sides, edge_ends}
+use Rattle.sheet_trace.specs.Inner.Levels.{level_between, level_parts}
 
 drop_next : {X : Type 0} (xs : List X) (k : ℕ) (d : X) → k < length xs → drop k xs ≡ get_or xs k d ∷ drop (suc k) xs
 drop_next [] k d l = absurd (omega (arith, l))
@@ -26,26 +26,26 @@ two_more out one two more all a b e f h =
     ap (λ z. z ++ more) f ∙ append_assoc one (b ∷ []) more ∙ ap (λ z. z ++ b ∷ more) e ∙ append_assoc out (a ∷ []) (b ∷ more) ∙ h
 
 pub sides_step : (ss : List Strip) (k : ℕ) (d : Strip) (out one two all : List BoundaryEdge) (a b : BoundaryEdge) → k < length ss
-    → a ≡ left_side (get_or ss k d) → b ≡ right_side (get_or ss k d) → one ≡ out ++ a ∷ [] → two ≡ one ++ b ∷ [] → out ++ sides_of (drop k ss) ≡ all → two ++ sides_of (drop (k + 1) ss) ≡ all
-unfolding sides_of
+    → a ≡ left_side (get_or ss k d) → b ≡ right_side (get_or ss k d) → one ≡ out ++ a ∷ [] → two ≡ one ++ b ∷ [] → out ++ strip_sides (drop k ss) ≡ all → two ++ strip_sides (drop (k + 1) ss) ≡ all
+unfolding strip_sides
 sides_step ss k d out one two all a b l p q e f h =
-    two_more out one two (sides_of (drop (k + 1) ss)) all a b e f
-    (ap (λ z. out ++ z ∷ b ∷ sides_of (drop (k + 1) ss)) p ∙ (ap (λ z. out ++ left_side (get_or ss k d) ∷ z ∷ sides_of (drop (k + 1) ss)) q ∙ (ap (λ z. out ++ sides_of z) (sym (drop_here ss k d l)) ∙ h)))
+    two_more out one two (strip_sides (drop (k + 1) ss)) all a b e f
+    (ap (λ z. out ++ z ∷ b ∷ strip_sides (drop (k + 1) ss)) p ∙ (ap (λ z. out ++ left_side (get_or ss k d) ∷ z ∷ strip_sides (drop (k + 1) ss)) q ∙ (ap (λ z. out ++ strip_sides z) (sym (drop_here ss k d l)) ∙ h)))
 
-pub sides_end : (ss : List Strip) (k : ℕ) (out all : List BoundaryEdge) → length ss ≤ k → out ++ sides_of (drop k ss) ≡ all → out ≡ all
-unfolding sides_of
-sides_end ss k out all l h = sym (append-nil out) ∙ (ap (λ z. out ++ sides_of z) (sym (drop_all ss k l)) ∙ h)
+pub sides_end : (ss : List Strip) (k : ℕ) (out all : List BoundaryEdge) → length ss ≤ k → out ++ strip_sides (drop k ss) ≡ all → out ≡ all
+unfolding strip_sides
+sides_end ss k out all l h = sym (append-nil out) ∙ (ap (λ z. out ++ strip_sides z) (sym (drop_all ss k l)) ∙ h)
 
 pub ends_step : (es : List BoundaryEdge) (k : ℕ) (d : BoundaryEdge) (out one two all : List Point) (a b : Point) → k < length es
-    → a ≡ (get_or es k d).start → b ≡ (get_or es k d).finish → one ≡ out ++ a ∷ [] → two ≡ one ++ b ∷ [] → out ++ ends_of (drop k es) ≡ all → two ++ ends_of (drop (k + 1) es) ≡ all
-unfolding ends_of
+    → a ≡ (get_or es k d).start → b ≡ (get_or es k d).finish → one ≡ out ++ a ∷ [] → two ≡ one ++ b ∷ [] → out ++ edge_ends (drop k es) ≡ all → two ++ edge_ends (drop (k + 1) es) ≡ all
+unfolding edge_ends
 ends_step es k d out one two all a b l p q e f h =
-    two_more out one two (ends_of (drop (k + 1) es)) all a b e f
-    (ap (λ z. out ++ z ∷ b ∷ ends_of (drop (k + 1) es)) p ∙ (ap (λ z. out ++ (get_or es k d).start ∷ z ∷ ends_of (drop (k + 1) es)) q ∙ (ap (λ z. out ++ ends_of z) (sym (drop_here es k d l)) ∙ h)))
+    two_more out one two (edge_ends (drop (k + 1) es)) all a b e f
+    (ap (λ z. out ++ z ∷ b ∷ edge_ends (drop (k + 1) es)) p ∙ (ap (λ z. out ++ (get_or es k d).start ∷ z ∷ edge_ends (drop (k + 1) es)) q ∙ (ap (λ z. out ++ edge_ends z) (sym (drop_here es k d l)) ∙ h)))
 
-pub ends_end : (es : List BoundaryEdge) (k : ℕ) (out all : List Point) → length es ≤ k → out ++ ends_of (drop k es) ≡ all → out ≡ all
-unfolding ends_of
-ends_end es k out all l h = sym (append-nil out) ∙ (ap (λ z. out ++ ends_of z) (sym (drop_all es k l)) ∙ h)
+pub ends_end : (es : List BoundaryEdge) (k : ℕ) (out all : List Point) → length es ≤ k → out ++ edge_ends (drop k es) ≡ all → out ≡ all
+unfolding edge_ends
+ends_end es k out all l h = sym (append-nil out) ∙ (ap (λ z. out ++ edge_ends z) (sym (drop_all es k l)) ∙ h)
 
 -- the level parts, from corner to corner
 pub parts_step : (ss : List Strip) (cs : List Point) (k : ℕ) (d e : Point) (out new all : List BoundaryEdge) → k + 1 < length cs

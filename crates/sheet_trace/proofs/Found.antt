@@ -6,9 +6,9 @@ use Rattle.std.proofs.lemmas.Int.{ints, by_lt_z}
 use Rattle.std.proofs.lemmas.Bool.{false≢true, cases_lt}
 use Rattle.grid_num.specs.declared.Point.{Point}
 use Rattle.strips.specs.declared.Strip.{Strip}
-use Rattle.strips.specs.Strips.{IsTrapezoid, IsBefore}
+use Rattle.strips.specs.Strips.{IsTrapezoid, IsStripBefore}
 use Rattle.sheet_union.specs.Near.{IsSheet}
-use Rattle.sheet_trace.specs.Levels.{begins_by, ends_by, begins_under, ends_over, has_below, has_above}
+use Rattle.sheet_trace.specs.Inner.Levels.{begins_by, ends_by, begins_under, ends_over, has_below, has_above}
 
 pub bool_cases : (b : Bool) → (b ≡ true) ⊎ (b ≡ false)
 bool_cases true = inl refl
@@ -86,11 +86,11 @@ at_below c (s ∷ ss) d h = at (bool_cases (begins_under c s)) (at_below c ss d)
     at (inr e) r = let f = r (ap (λ b. b || has_below c ss) (sym e) ∙ h) in (suc f.0, (let l = f.1 in omega (arith, l)), f.2)
 
 -- of two strips in order, how the first rows lie
-below_order : (a b : Strip) → IsTrapezoid a → IsTrapezoid b → IsBefore a b → (a.top <ℤ b.top) ⊎ ((a.top ≡ b.top) × (a.right ≤ℤ b.left))
+below_order : (a b : Strip) → IsTrapezoid a → IsTrapezoid b → IsStripBefore a b → (a.top <ℤ b.top) ⊎ ((a.top ≡ b.top) × (a.right ≤ℤ b.left))
 below_order a b t u (inl h) = let d = t.down in inl (omega (arith, ints, h, d))
 below_order a b t u (inr h) = inr (h.0, (h.2).start)
 
-below_earlier : (c : Point) (a b : Strip) → IsTrapezoid a → IsTrapezoid b → IsBefore a b → begins_by c b ≡ true → begins_by c a ≡ true
+below_earlier : (c : Point) (a b : Strip) → IsTrapezoid a → IsTrapezoid b → IsStripBefore a b → begins_by c b ≡ true → begins_by c a ≡ true
 below_earlier c a b t u o h = let n = by_not c b h in let w = t.start in elim (below_order a b t u o) [
   | inl l ↦ by_lt_z {P = begins_by c a ≡ true} a.top c.y (λ k. by_meets_above c a k) (λ k. absurd (n.0 (omega (arith, ints, k, l))))
   | inr e ↦ (let e0 = e.0 in let e1 = e.1 in by_lt_z {P = begins_by c a ≡ true} a.top c.y (λ k. by_meets_above c a k)
@@ -105,7 +105,7 @@ below_partitioned c ss o i j d l m h = elim (cases_lt i j) [
 ]
 
 -- a strip that has it and a later one that begins by there: these are not two
-below_last : (c : Point) (a b : Strip) → IsTrapezoid a → IsTrapezoid b → IsBefore a b → begins_under c a ≡ true → begins_by c b ≡ true → ⊥
+below_last : (c : Point) (a b : Strip) → IsTrapezoid a → IsTrapezoid b → IsStripBefore a b → begins_under c a ≡ true → begins_by c b ≡ true → ⊥
 below_last c a b t u o h k = let n = by_not c b k in let q = under_told c a h in let q0 = q.0 in let q1 = q.1.1 in elim (below_order a b t u o) [
   | inl l ↦ n.0 (omega (arith, ints, l, q0))
   | inr e ↦ (let e0 = e.0 in let e1 = e.1 in n.1 (omega (arith, ints, e0, q0)) (omega (arith, ints, e1, q1)))
@@ -157,11 +157,11 @@ at_above c (s ∷ ss) d h = at (bool_cases (ends_over c s)) (at_above c ss d)
     at (inr e) r = let f = r (ap (λ b. b || has_above c ss) (sym e) ∙ h) in (suc f.0, (let l = f.1 in omega (arith, l)), f.2)
 
 -- of two strips in order, how the last rows lie
-above_order : (a b : Strip) → IsTrapezoid a → IsTrapezoid b → IsBefore a b → (a.bottom <ℤ b.bottom) ⊎ ((a.bottom ≡ b.bottom) × (a.right_end ≤ℤ b.left_end))
+above_order : (a b : Strip) → IsTrapezoid a → IsTrapezoid b → IsStripBefore a b → (a.bottom <ℤ b.bottom) ⊎ ((a.bottom ≡ b.bottom) × (a.right_end ≤ℤ b.left_end))
 above_order a b t u (inl h) = let d = u.down in inl (omega (arith, ints, h, d))
 above_order a b t u (inr h) = inr (h.1, (h.2).finish)
 
-above_earlier : (c : Point) (a b : Strip) → IsTrapezoid a → IsTrapezoid b → IsBefore a b → ends_by c b ≡ true → ends_by c a ≡ true
+above_earlier : (c : Point) (a b : Strip) → IsTrapezoid a → IsTrapezoid b → IsStripBefore a b → ends_by c b ≡ true → ends_by c a ≡ true
 above_earlier c a b t u o h = let n = ends_not c b h in let w = t.finish in elim (above_order a b t u o) [
   | inl l ↦ by_lt_z {P = ends_by c a ≡ true} a.bottom c.y (λ k. ends_meets_above c a k) (λ k. absurd (n.0 (omega (arith, ints, k, l))))
   | inr e ↦ (let e0 = e.0 in let e1 = e.1 in by_lt_z {P = ends_by c a ≡ true} a.bottom c.y (λ k. ends_meets_above c a k)
@@ -176,7 +176,7 @@ above_partitioned c ss o i j d l m h = elim (cases_lt i j) [
 ]
 
 -- a strip that has it and a later one that ends by there: these are not two
-above_last : (c : Point) (a b : Strip) → IsTrapezoid a → IsTrapezoid b → IsBefore a b → ends_over c a ≡ true → ends_by c b ≡ true → ⊥
+above_last : (c : Point) (a b : Strip) → IsTrapezoid a → IsTrapezoid b → IsStripBefore a b → ends_over c a ≡ true → ends_by c b ≡ true → ⊥
 above_last c a b t u o h k = let n = ends_not c b k in let q = over_told c a h in let q0 = q.0 in let q1 = q.1.1 in elim (above_order a b t u o) [
   | inl l ↦ n.0 (omega (arith, ints, l, q0))
   | inr e ↦ (let e0 = e.0 in let e1 = e.1 in n.1 (omega (arith, ints, e0, q0)) (omega (arith, ints, e1, q1)))

@@ -1,4 +1,3 @@
-mod Sorted
 mod Found
 mod Folds
 mod Parts

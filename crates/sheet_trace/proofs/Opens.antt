@@ -7,10 +7,10 @@ use Rattle.std.proofs.lemmas.Int.{ints, by_lt_z}
 use Rattle.std.proofs.lemmas.Bool.{false≢true, eqb-true, false_from_ne_true}
 use Rattle.std.proofs.lemmas.Bool.Decides.{Decides-int_eq}
 use Rattle.grid_num.specs.declared.Point.{Point}
-use Rattle.covering.specs.Covering.{Edge}
+use Rattle.plane.specs.Covering.{Edge}
 use Rattle.rings.specs.Turning.{direction, turn_to}
-use Rattle.rings.specs.Walks.{Visit, visits, visits_after, last_of, corner, IsLess}
-use Rattle.rings.specs.Tracing.{is_same_point, is_less_point, is_open_left, some_visit}
+use Rattle.rings.specs.Walks.{Visit, visits, visits_after, last_of, visit_corner, IsLess}
+use Rattle.rings.specs.Inner.Tracing.{is_same_point, is_less_point, is_open_left, some_visit}
 use Rattle.rings.proofs.Lists.{Has}
 use Rattle.rings.proofs.Order.{point_same, less_never, less_on, less_cases}
 use Rattle.rings.proofs.Unique.{and_both}
@@ -18,8 +18,8 @@ use Rattle.rings.proofs.Heads.{goes_has, visit_goes}
 use Rattle.sheet_trace.specs.declared.edge.BoundaryEdge.{BoundaryEdge}
 use Rattle.sheet_trace.specs.Edges.{edge_of, edges_in}
 use Rattle.sheet_trace.specs.Next.{is_before, heading, turn_between}
-use Rattle.sheet_trace.specs.Turns.{lesser_corner, least_corner, turn_left, opens_at}
-use Rattle.sheet_trace.specs.Visits.{visit_of}
+use Rattle.sheet_trace.specs.Inner.Turns.{lesser_corner, least_start, turn_left, opens_at}
+use Rattle.sheet_trace.specs.Inner.Visits.{visit_of}
 use Rattle.sheet_trace.proofs.Found.{bool_cases}
 use Rattle.sheet_trace.proofs.Folds.{drop_here, drop_all}
 use Rattle.sheet_trace.proofs.Ranges.{turn_is}
@@ -76,14 +76,14 @@ record IsLeast (first : Point) (es : List BoundaryEdge) (c : Point) : Type 0 whe
   low : (e : BoundaryEdge) → Has es e → IsNotLess e.start c
   is : (c ≡ first) ⊎ ((e : BoundaryEdge) × Has es e × (e.start ≡ c))
 
-least_is : (first : Point) (es : List BoundaryEdge) → IsLeast first es (least_corner first es)
-unfolding least_corner Has
+least_is : (first : Point) (es : List BoundaryEdge) → IsLeast first es (least_start first es)
+unfolding least_start Has
 least_is first [] = record { front = less_never first; low = λ e h. absurd h; is = inl refl }
 least_is first (e ∷ es) =
     let l = lesser_is first e.start in
     let c = lesser_corner first e.start in
     let r = least_is c es in
-    let end = least_corner c es in
+    let end = least_start c es in
     record {
       front = not_less_on first c end l.one r.front;
       low = λ f h. elim h [
@@ -113,12 +113,12 @@ edges_have [] e h = absurd h
 edges_have (f ∷ fs) e (inl k) = inl (ap edge_of k)
 edges_have (f ∷ fs) e (inr h) = inr (edges_have fs e h)
 
-low_is : (e : BoundaryEdge) (es : List BoundaryEdge) → IsLow (edges_in (e ∷ es)) (least_corner e.start (e ∷ es))
+low_is : (e : BoundaryEdge) (es : List BoundaryEdge) → IsLow (edges_in (e ∷ es)) (least_start e.start (e ∷ es))
 unfolding Has
 low_is e es =
     let r = least_is e.start (e ∷ es) in
     record {
-      low = λ f h. (let k = in_edges (e ∷ es) f h in subst (λ (z : Edge). IsNotLess z.start (least_corner e.start (e ∷ es))) k.2 (r.low k.0 k.1));
+      low = λ f h. (let k = in_edges (e ∷ es) f h in subst (λ (z : Edge). IsNotLess z.start (least_start e.start (e ∷ es))) k.2 (r.low k.0 k.1));
       one = elim r.is [
         | inl k ↦ (edge_of e, edges_have (e ∷ es) e (inl refl), sym k)
         | inr k ↦ (edge_of k.0, edges_have (e ∷ es) k.0 k.1, k.2)
@@ -146,24 +146,24 @@ not_true : (b : Bool) → not b ≡ true → b ≡ true → ⊥
 not_true true h k = false≢true h
 not_true false h k = false≢true k
 
-least_test : (w : List Edge) (c : Point) (v : Visit) → IsLow w c → Has (visits w) v → list_all (λ u. not (is_less_point (corner u) (corner v))) (visits w) ≡ is_same_point (corner v) c
-least_test w c v l h = same_bool (list_all (λ u. not (is_less_point (corner u) (corner v))) (visits w)) (is_same_point (corner v) c) there back
+least_test : (w : List Edge) (c : Point) (v : Visit) → IsLow w c → Has (visits w) v → list_all (λ u. not (is_less_point (visit_corner u) (visit_corner v))) (visits w) ≡ is_same_point (visit_corner v) c
+least_test w c v l h = same_bool (list_all (λ u. not (is_less_point (visit_corner u) (visit_corner v))) (visits w)) (is_same_point (visit_corner v) c) there back
   where
-    there : list_all (λ u. not (is_less_point (corner u) (corner v))) (visits w) ≡ true → is_same_point (corner v) c ≡ true
+    there : list_all (λ u. not (is_less_point (visit_corner u) (visit_corner v))) (visits w) ≡ true → is_same_point (visit_corner v) c ≡ true
     there a =
         let u = visit_goes w l.one.0 l.one.1 in
-        let k : corner u.0 ≡ c = ap (λ (e : Edge). e.start) u.2 ∙ l.one.2 in
-        let n = not_true (is_less_point (corner u.0) (corner v)) (all_told (λ u. not (is_less_point (corner u) (corner v))) (visits w) a u.0 u.1) in
-        same_meets (corner v) c (elim (less_cases (corner v) c) [
+        let k : visit_corner u.0 ≡ c = ap (λ (e : Edge). e.start) u.2 ∙ l.one.2 in
+        let n = not_true (is_less_point (visit_corner u.0) (visit_corner v)) (all_told (λ u. not (is_less_point (visit_corner u) (visit_corner v))) (visits w) a u.0 u.1) in
+        same_meets (visit_corner v) c (elim (less_cases (visit_corner v) c) [
           | inl m ↦ absurd (l.low v.goes (goes_has w v h) m)
-          | inr o ↦ elim o [ inl e ↦ e | inr m ↦ absurd (n (less_meets (corner u.0) (corner v) (subst (λ z. IsLess z (corner v)) (sym k) m))) ]
+          | inr o ↦ elim o [ inl e ↦ e | inr m ↦ absurd (n (less_meets (visit_corner u.0) (visit_corner v) (subst (λ z. IsLess z (visit_corner v)) (sym k) m))) ]
         ])
 
-    back : is_same_point (corner v) c ≡ true → list_all (λ u. not (is_less_point (corner u) (corner v))) (visits w) ≡ true
+    back : is_same_point (visit_corner v) c ≡ true → list_all (λ u. not (is_less_point (visit_corner u) (visit_corner v))) (visits w) ≡ true
     back s =
-        let e = same_told (corner v) c s in
-        all_meets (λ u. not (is_less_point (corner u) (corner v))) (visits w)
-        (λ u i. ap not (false_from_ne_true (is_less_point (corner u) (corner v)) (λ t. l.low u.goes (goes_has w u i) (subst (IsLess (corner u)) e (less_told (corner u) (corner v) t)))))
+        let e = same_told (visit_corner v) c s in
+        all_meets (λ u. not (is_less_point (visit_corner u) (visit_corner v))) (visits w)
+        (λ u i. ap not (false_from_ne_true (is_less_point (visit_corner u) (visit_corner v)) (λ t. l.low u.goes (goes_has w u i) (subst (IsLess (visit_corner u)) e (less_told (visit_corner u) (visit_corner v) t)))))
 
 and_turned : (a b : Bool) → (a && b) ≡ (b && a)
 and_turned true true = refl
@@ -175,7 +175,7 @@ opens_same : (w : List Edge) (c : Point) (v : Visit) → IsLow w c → Has (visi
 unfolding opens_at is_open_left
 opens_same w c v l h =
     let t = nat_lt (turn_to v.comes 4) (turn_to v.comes (direction v.goes)) in
-    and_turned (is_same_point (corner v) c) t ∙ ap (λ b. t && b) (sym (least_test w c v l h))
+    and_turned (is_same_point (visit_corner v) c) t ∙ ap (λ b. t && b) (sym (least_test w c v l h))
 
 some_same : (p q : Visit → Bool) (vs : List Visit) → ((v : Visit) → Has vs v → p v ≡ q v) → some_visit p vs ≡ some_visit q vs
 unfolding some_visit Has
@@ -196,14 +196,14 @@ visits_by (e ∷ es) d l =
     ap (λ z. visits_after z (edges_in (e ∷ es))) (last_is e es d ∙ ap (λ n. edge_of (get_or (e ∷ es) n d)) (sym k))
 
 hole_is : (es : List BoundaryEdge) (a b : BoundaryEdge) → 0 < length es
-    → some_visit (opens_at (least_corner (get_or es 0 a).start es)) (visits_after (edge_of (get_or es (length es - 1) b)) (edges_in es)) ≡ some_visit (is_open_left (edges_in es)) (visits (edges_in es))
+    → some_visit (opens_at (least_start (get_or es 0 a).start es)) (visits_after (edge_of (get_or es (length es - 1) b)) (edges_in es)) ≡ some_visit (is_open_left (edges_in es)) (visits (edges_in es))
 hole_is [] a b l = absurd (omega (arith, l))
 hole_is (e ∷ es) a b l =
     let w = edges_in (e ∷ es) in
-    let c = least_corner e.start (e ∷ es) in
+    let c = least_start e.start (e ∷ es) in
     ap (λ vs. some_visit (opens_at c) vs) (sym (visits_by (e ∷ es) b l)) ∙ some_same (opens_at c) (is_open_left w) (visits w) (λ v h. opens_same w c v (low_is e es) h)
 
-pub hole_by : (es : List BoundaryEdge) (a b : BoundaryEdge) (at : Point) (r : Bool) → 0 < length es → at ≡ least_corner (get_or es 0 a).start es
+pub hole_by : (es : List BoundaryEdge) (a b : BoundaryEdge) (at : Point) (r : Bool) → 0 < length es → at ≡ least_start (get_or es 0 a).start es
     → r ≡ some_visit (opens_at at) (visits_after (edge_of (get_or es (length es - 1) b)) (edges_in es)) → r ≡ some_visit (is_open_left (edges_in es)) (visits (edges_in es))
 hole_by es a b at r l e h = h ∙ (ap (λ c. some_visit (opens_at c) (visits_after (edge_of (get_or es (length es - 1) b)) (edges_in es))) e ∙ hole_is es a b l)
 
@@ -220,14 +220,14 @@ no_hole [] l = refl
 no_hole (e ∷ es) l = absurd (omega (arith, l))
 
 -- ---- steps of the passes
-pub least_step : (es : List BoundaryEdge) (k : ℕ) (d : BoundaryEdge) (c new all : Point) → k < length es → new ≡ lesser_corner c (get_or es k d).start → least_corner c (drop k es) ≡ all
-    → least_corner new (drop (k + 1) es) ≡ all
-unfolding least_corner
-least_step es k d c new all l e h = ap (λ z. least_corner z (drop (k + 1) es)) e ∙ (ap (least_corner c) (sym (drop_here es k d l)) ∙ h)
+pub least_step : (es : List BoundaryEdge) (k : ℕ) (d : BoundaryEdge) (c new all : Point) → k < length es → new ≡ lesser_corner c (get_or es k d).start → least_start c (drop k es) ≡ all
+    → least_start new (drop (k + 1) es) ≡ all
+unfolding least_start
+least_step es k d c new all l e h = ap (λ z. least_start z (drop (k + 1) es)) e ∙ (ap (least_start c) (sym (drop_here es k d l)) ∙ h)
 
-pub least_end : (es : List BoundaryEdge) (k : ℕ) (c all : Point) → length es ≤ k → least_corner c (drop k es) ≡ all → c ≡ all
-unfolding least_corner
-least_end es k c all l h = ap (least_corner c) (sym (drop_all es k l)) ∙ h
+pub least_end : (es : List BoundaryEdge) (k : ℕ) (c all : Point) → length es ≤ k → least_start c (drop k es) ≡ all → c ≡ all
+unfolding least_start
+least_end es k c all l h = ap (least_start c) (sym (drop_all es k l)) ∙ h
 
 abbrev some_from : Point → Edge → List BoundaryEdge → Bool
 some_from at e es = some_visit (opens_at at) (visits_after e (edges_in es))

@@ -7,8 +7,8 @@ use Rattle.std.proofs.lemmas.Bool.{false≢true}
 use Rattle.std.proofs.lemmas.List.{append-nil, append_assoc}
 use Rattle.std.proofs.lemmas.List.Sorted.{IsPermutation-refl, IsPermutation-map, IsPermutation-trans, IsPermutation-append_left}
 use Rattle.grid_num.specs.declared.Point.{Point}
-use Rattle.covering.specs.Covering.{Edge}
-use Rattle.covering.specs.Edges.{turned, both_ways}
+use Rattle.plane.specs.Covering.{Edge}
+use Rattle.plane.specs.Edges.{turned_back, both_ways}
 use Rattle.strips.specs.declared.Strip.{Strip}
 use Rattle.rings.specs.Walks.{IsListLess}
 use Rattle.rings.specs.Loops.{Loop, AreLoopsOf}
@@ -17,16 +17,16 @@ use Rattle.rings.specs.Rings.{holes_of, with_slits, AreRingsOf}
 use Rattle.rings.specs.Boundary.{AreBoundary}
 use Rattle.rings.specs.Sheets.{AreLoops, AreRings}
 use Rattle.rings.specs.Laws.{AreOrderly, HasOneNextEach}
-use Rattle.rings.specs.Tracing.{drawings_of, walks_of, loops_by, slit_by, slits_by}
+use Rattle.rings.specs.Inner.Tracing.{drawings_of, walks_of, loops_by, slit_by, slits_by}
 use Rattle.rings.proofs.Laws.{next_law, slits_next_law, uncut_law, loops_by_law, slits_by_law, drawn_rings_law}
 use Rattle.rings.proofs.Outcome.{loops_corners}
 use Rattle.sheet_union.specs.Near.{IsSheet}
 use Rattle.sheet_trace.specs.declared.edge.BoundaryEdge.{BoundaryEdge}
 use Rattle.sheet_trace.specs.declared.order.Drawn.{Drawn}
 use Rattle.sheet_trace.specs.Edges.{edge_of, edges_in}
-use Rattle.sheet_trace.specs.Order.{loop_in, loops_in, AreLoopsInOrder}
-use Rattle.sheet_trace.specs.Walked.{loop_along}
-use Rattle.sheet_trace.specs.Outlines.{AreEdgesOf, AreUnlike, AreSlitted, corners_in, slit_along}
+use Rattle.sheet_trace.specs.Inner.Order.{loop_in, loops_in, AreLoopsInOrder}
+use Rattle.sheet_trace.specs.Inner.Walked.{loop_along}
+use Rattle.sheet_trace.specs.Inner.Outlines.{AreEdgesOf, AreUnlike, AreSlitted, corners_in, slit_along}
 use Rattle.sheet_trace.proofs.Folds.{drop_here, drop_all}
 use Rattle.sheet_trace.proofs.Walked.{edges_append, edges_length}
 
@@ -121,7 +121,7 @@ drop_none (x ∷ xs) = refl
 
 pub one_slit : (es : List Edge) (old one two : List BoundaryEdge) (cs : List Point) (d : Point) (s : BoundaryEdge) → 0 < length cs → edge_of s ≡ slit_by es (get_or cs 0 d)
     → one ≡ old ++ s ∷ [] → two ≡ one ++ record { start = s.finish; finish = s.start } ∷ [] → edges_in two ≡ edges_in old ++ both_ways (slits_by es (cs ∷ []))
-unfolding edges_in turned both_ways slits_by
+unfolding edges_in turned_back both_ways slits_by
 one_slit es old one two cs d s l e f g =
     let t : BoundaryEdge = record { start = s.finish; finish = s.start } in
     let h : cs ≡ get_or cs 0 d ∷ drop (0 + 1) cs = sym (drop_none cs) ∙ drop_here cs 0 d l in
@@ -129,7 +129,7 @@ one_slit es old one two cs d s l e f g =
     ∙ (edges_append one (t ∷ [])
     ∙ (ap (λ z. z ++ edge_of t ∷ []) (ap edges_in f ∙ edges_append old (s ∷ []))
     ∙ (append_assoc (edges_in old) (edge_of s ∷ []) (edge_of t ∷ [])
-    ∙ (ap (λ z. edges_in old ++ z ∷ turned z ∷ []) e ∙ ap (λ z. edges_in old ++ both_ways (slits_by es (z ∷ []))) (sym h)))))
+    ∙ (ap (λ z. edges_in old ++ z ∷ turned_back z ∷ []) e ∙ ap (λ z. edges_in old ++ both_ways (slits_by es (z ∷ []))) (sym h)))))
 
 -- ---- rings
 pub slits_added : (es slits all sorted : List BoundaryEdge) (loops : List Loop) → edges_in slits ≡ both_ways (slits_by (edges_in es) (holes_of loops)) → all ≡ es ++ slits → IsPermutation all sorted

@@ -7,10 +7,10 @@ use Rattle.std.proofs.lemmas.Bool.{false≢true}
 use Rattle.std.proofs.lemmas.List.Kept.{AllPairs-cons}
 use Rattle.std.proofs.lemmas.List.Sorted.{IsPermutation-sym}
 use Rattle.grid_num.specs.declared.Point.{Point}
-use Rattle.covering.specs.Covering.{Edge}
+use Rattle.plane.specs.Covering.{Edge}
 use Rattle.strips.specs.declared.Strip.{Strip}
-use Rattle.strips.specs.Strips.{IsTrapezoid, IsBefore}
-use Rattle.rings.specs.Boundary.{IsCorner, HasAbove, HasBelow, AreNeighbours, IsLevelPart, AreLevelParts, AreBoundary, side_edges}
+use Rattle.strips.specs.Strips.{IsTrapezoid, IsStripBefore}
+use Rattle.rings.specs.Boundary.{IsCorner, HasCopperAbove, HasCopperBelow, AreNeighbours, IsLevelPart, AreLevelParts, AreBoundary, side_edges}
 use Rattle.rings.proofs.Lists.{Has, of_has, has_left, has_right, has_parts, has_permuted, all_of, all_at, NoRepeats, no_repeats_append, rising_of}
 use Rattle.rings.proofs.Order.{point_same}
 use Rattle.rings.proofs.Sides.{AreOrdered}
@@ -19,12 +19,12 @@ use Rattle.rings.proofs.Levels.{part_below, part_above}
 use Rattle.rings.proofs.Around.{right_of, from_left}
 use Rattle.sheet_union.specs.Near.{IsSheet}
 use Rattle.sheet_trace.specs.declared.edge.BoundaryEdge.{BoundaryEdge}
-use Rattle.sheet_trace.specs.Edges.{edge_of, edges_in, left_side, right_side, sides_of, ends_of, AreFromTop}
-use Rattle.sheet_trace.specs.Levels.{begins_under, ends_over, has_below, has_above, level_between, level_parts}
+use Rattle.sheet_trace.specs.Edges.{edge_of, edges_in, left_side, right_side, strip_sides, edge_ends, ArePointsFromTop}
+use Rattle.sheet_trace.specs.Inner.Levels.{begins_under, ends_over, has_below, has_above, level_between, level_parts}
 use Rattle.sheet_trace.proofs.Found.{under_told, under_meets, over_told, over_meets, at_below, below_at, at_above, above_at}
 
 pub ordered : (ss : List Strip) → IsSheet ss → AreOrdered ss
-ordered ss o = record { shape = λ s h. all_at (λ s. IsTrapezoid s) ss s o.shapes h; order = rising_of IsBefore ss o.order }
+ordered ss o = record { shape = λ s h. all_at (λ s. IsTrapezoid s) ss s o.shapes h; order = rising_of IsStripBefore ss o.order }
 
 -- ---- the code's edges and corners
 edges_append : (es fs : List BoundaryEdge) → edges_in (es ++ fs) ≡ edges_in es ++ edges_in fs
@@ -32,19 +32,19 @@ unfolding edges_in
 edges_append [] fs = refl
 edges_append (e ∷ es) fs = ap (λ z. edge_of e ∷ z) (edges_append es fs)
 
-sides_are : (ss : List Strip) → edges_in (sides_of ss) ≡ side_edges ss
-unfolding edges_in sides_of side_edges
+sides_are : (ss : List Strip) → edges_in (strip_sides ss) ≡ side_edges ss
+unfolding edges_in strip_sides side_edges
 sides_are [] = refl
 sides_are (s ∷ ss) = ap (λ z. edge_of (left_side s) ∷ edge_of (right_side s) ∷ z) (sides_are ss)
 
-ends_are : (es : List BoundaryEdge) → ends_of es ≡ ends (edges_in es)
-unfolding ends_of edges_in ends
+ends_are : (es : List BoundaryEdge) → edge_ends es ≡ ends (edges_in es)
+unfolding edge_ends edges_in ends
 ends_are [] = refl
 ends_are (e ∷ es) = ap (λ z. e.start ∷ e.finish ∷ z) (ends_are es)
 
-corners_are : (ss : List Strip) → ends_of (sides_of ss) ≡ corners ss
+corners_are : (ss : List Strip) → edge_ends (strip_sides ss) ≡ corners ss
 unfolding corners
-corners_are ss = ends_are (sides_of ss) ∙ ap ends (sides_are ss)
+corners_are ss = ends_are (strip_sides ss) ∙ ap ends (sides_are ss)
 
 -- ---- copper beside a corner
 pub index_has : {X : Type 0} (xs : List X) (k : ℕ) (d : X) → k < length xs → Has xs (get_or xs k d)
@@ -56,7 +56,7 @@ index_has (x ∷ xs) (suc k) d l = inr (index_has xs k d (omega (arith, l)))
 pub has_index : {X : Type 0} (xs : List X) (x : X) → Has xs x → (k : ℕ) × (k < length xs) × (get_or xs k x ≡ x)
 has_index xs x h = of_has xs x h
 
-below_is : (ss : List Strip) (a : Point) → AreOrdered ss → has_below a ss ≡ true → HasBelow ss (right_of a)
+below_is : (ss : List Strip) (a : Point) → AreOrdered ss → has_below a ss ≡ true → HasCopperBelow ss (right_of a)
 unfolding right_of has_below
 below_is [] a o h = absurd (false≢true h)
 below_is (z ∷ zs) a o h =
@@ -67,7 +67,7 @@ below_is (z ∷ zs) a o h =
     let q0 = q.0 in let q1 = (q.1).0 in let q2 = (q.1).1 in
     of_under ss (right_of a) s o (record { one = index_has ss f.0 z f.1; row = omega (arith, ints, q0); from = omega (arith, ints, q1); to = omega (arith, ints, q2) })
 
-is_below : (ss : List Strip) (a : Point) → AreOrdered ss → HasBelow ss (right_of a) → has_below a ss ≡ true
+is_below : (ss : List Strip) (a : Point) → AreOrdered ss → HasCopperBelow ss (right_of a) → has_below a ss ≡ true
 unfolding right_of
 is_below ss a o h =
     let u = under_of ss (right_of a) o h in
@@ -76,7 +76,7 @@ is_below ss a o h =
     let k = has_index ss s (u.1).one in
     below_at a ss k.0 s k.1 (subst (λ z. begins_under a z ≡ true) (sym k.2) (under_meets a s (omega (arith, ints, r)) (omega (arith, ints, f)) (omega (arith, ints, t))))
 
-above_is : (ss : List Strip) (a : Point) → AreOrdered ss → has_above a ss ≡ true → HasAbove ss (right_of a)
+above_is : (ss : List Strip) (a : Point) → AreOrdered ss → has_above a ss ≡ true → HasCopperAbove ss (right_of a)
 unfolding right_of has_above
 above_is [] a o h = absurd (false≢true h)
 above_is (z ∷ zs) a o h =
@@ -87,7 +87,7 @@ above_is (z ∷ zs) a o h =
     let q0 = q.0 in let q1 = (q.1).0 in let q2 = (q.1).1 in
     of_over ss (right_of a) s o (record { one = index_has ss f.0 z f.1; row = omega (arith, ints, q0); from = omega (arith, ints, q1); to = omega (arith, ints, q2) })
 
-is_above : (ss : List Strip) (a : Point) → AreOrdered ss → HasAbove ss (right_of a) → has_above a ss ≡ true
+is_above : (ss : List Strip) (a : Point) → AreOrdered ss → HasCopperAbove ss (right_of a) → has_above a ss ≡ true
 unfolding right_of
 is_above ss a o h =
     let u = over_of ss (right_of a) o h in
@@ -111,7 +111,7 @@ not_after_on a b c (inl l) (inr m) = let m0 = m.0 in inl (omega (arith, ints, l,
 not_after_on a b c (inr l) (inl m) = let l0 = l.0 in inl (omega (arith, ints, l0, m))
 not_after_on a b c (inr l) (inr m) = let l1 = l.1 in let m1 = m.1 in inr (l.0 ∙ m.0, omega (arith, ints, l1, m1))
 
-rising_from : (cs : List Point) → AreFromTop cs → IsRising cs
+rising_from : (cs : List Point) → ArePointsFromTop cs → IsRising cs
 unfolding IsRising
 rising_from [] h = tt
 rising_from (a ∷ []) h = tt
@@ -411,11 +411,11 @@ parts_are ss cs o c =
       once = pairs_of (edges_in ps) (edges_once ps (parts_once ss cs c.rising));
     }
 
-pub boundary_is : (ss : List Strip) (sides all : List BoundaryEdge) (cs : List Point) → IsSheet ss → sides ≡ sides_of ss → IsPermutation (ends_of sides) cs → AreFromTop cs
+pub boundary_is : (ss : List Strip) (sides all : List BoundaryEdge) (cs : List Point) → IsSheet ss → sides ≡ strip_sides ss → IsPermutation (edge_ends sides) cs → ArePointsFromTop cs
     → all ≡ sides ++ level_parts ss cs → AreBoundary ss (edges_in all)
 boundary_is ss sides all cs i s p t a =
     let o = ordered ss i in
-    let ends = ap ends_of s ∙ corners_are ss in
+    let ends = ap edge_ends s ∙ corners_are ss in
     let perm = subst (λ z. IsPermutation z cs) ends p in
     let c : AreCornersOf ss cs = record {
       rising = rising_from cs t;

@@ -9,17 +9,17 @@ use Rattle.std.proofs.lemmas.Bool.{false≢true, and_from, false_from_ne_true, c
 use Rattle.std.proofs.lemmas.Fn.{always_returns_same}
 use Rattle.std.proofs.lemmas.List.Sorted.{IsPermutation-refl, IsPermutation-cons, IsPermutation-trans, IsPermutation-sym, IsPermutation-map, IsPermutation-middle}
 use Rattle.grid_num.specs.declared.Point.{Point}
-use Rattle.covering.specs.Covering.{Edge}
+use Rattle.plane.specs.Covering.{Edge}
 use Rattle.rings.specs.Walks.{IsListLess}
 use Rattle.rings.specs.Loops.{Loop}
-use Rattle.rings.specs.Tracing.{is_same_point, is_less_point, is_less_list, Drawing, put, in_order, loop_of}
+use Rattle.rings.specs.Inner.Tracing.{is_same_point, is_less_point, is_less_list, Drawing, put_in_order, in_corner_order, loop_of}
 use Rattle.rings.proofs.Lists.{Has, has_permuted, IsTest, NoRepeats, no_repeats_permuted, IsOrder, Rising, rising_of, rising_same}
 use Rattle.rings.proofs.Order.{list_cases, list_order}
 use Rattle.rings.proofs.Checks.{same_point, less_point, less_list, less_list_told, list_meets}
 use Rattle.rings.proofs.Heads.{has_map, map_has}
 use Rattle.sheet_trace.specs.declared.order.Drawn.{Drawn}
 use Rattle.sheet_trace.specs.Next.{is_before}
-use Rattle.sheet_trace.specs.Order.{loop_in, loops_in, is_less_drawn, drawing_of, AreLoopsInOrder}
+use Rattle.sheet_trace.specs.Inner.Order.{loop_in, loops_in, is_less_drawn, drawing_of, AreLoopsInOrder}
 use Rattle.sheet_trace.proofs.Folds.{drop_here, drop_all}
 use Rattle.sheet_trace.proofs.Rounds.{less_next, less_here}
 use denote.Param.Members.{Mut}
@@ -154,23 +154,23 @@ rising_map f g [] r = tt
 rising_map f g (x ∷ xs) r = (λ y h. (let k = map_has f xs y h in subst (λ z. IsListLess (g (f x)) (g z)) k.2 (r.0 k.0 k.1)), rising_map f g xs r.1)
 
 -- ---- the rule's order only moves the drawings
-put_by : (d e : Drawing) (ds : List Drawing) (b : Bool) → is_less_list d.corners e.corners ≡ b → IsPermutation (d ∷ ds) (put d ds) → IsPermutation (d ∷ e ∷ ds) (put d (e ∷ ds))
-unfolding put
+put_by : (d e : Drawing) (ds : List Drawing) (b : Bool) → is_less_list d.corners e.corners ≡ b → IsPermutation (d ∷ ds) (put_in_order d ds) → IsPermutation (d ∷ e ∷ ds) (put_in_order d (e ∷ ds))
+unfolding put_in_order
 put_by d e ds true h p = rw h (IsPermutation-refl (d ∷ e ∷ ds))
 put_by d e ds false h p =
-    rw h (IsPermutation-trans (d ∷ e ∷ ds) (e ∷ d ∷ ds) (e ∷ put d ds) (IsPermutation-sym (e ∷ d ∷ ds) (d ∷ e ∷ ds) (IsPermutation-middle (e ∷ []) d ds)) (IsPermutation-cons e (d ∷ ds) (put d ds) p))
+    rw h (IsPermutation-trans (d ∷ e ∷ ds) (e ∷ d ∷ ds) (e ∷ put_in_order d ds) (IsPermutation-sym (e ∷ d ∷ ds) (d ∷ e ∷ ds) (IsPermutation-middle (e ∷ []) d ds)) (IsPermutation-cons e (d ∷ ds) (put_in_order d ds) p))
 
-put_moves : (d : Drawing) (ds : List Drawing) → IsPermutation (d ∷ ds) (put d ds)
-unfolding put
+put_moves : (d : Drawing) (ds : List Drawing) → IsPermutation (d ∷ ds) (put_in_order d ds)
+unfolding put_in_order
 put_moves d [] = IsPermutation-refl (d ∷ [])
 put_moves d (e ∷ ds) = put_by d e ds (is_less_list d.corners e.corners) refl (put_moves d ds)
 
-order_moves : (ws : List (List Edge)) → IsPermutation (map drawing_of ws) (in_order ws)
-unfolding in_order
+order_moves : (ws : List (List Edge)) → IsPermutation (map drawing_of ws) (in_corner_order ws)
+unfolding in_corner_order
 order_moves [] = IsPermutation-refl []
 order_moves (w ∷ ws) =
-    IsPermutation-trans (drawing_of w ∷ map drawing_of ws) (drawing_of w ∷ in_order ws) (put (drawing_of w) (in_order ws))
-    (IsPermutation-cons (drawing_of w) (map drawing_of ws) (in_order ws) (order_moves ws)) (put_moves (drawing_of w) (in_order ws))
+    IsPermutation-trans (drawing_of w ∷ map drawing_of ws) (drawing_of w ∷ in_corner_order ws) (put_in_order (drawing_of w) (in_corner_order ws))
+    (IsPermutation-cons (drawing_of w) (map drawing_of ws) (in_corner_order ws) (order_moves ws)) (put_moves (drawing_of w) (in_corner_order ws))
 
 loops_corners : (ds : List Drawing) → map (λ (l : Loop). l.corners) (map loop_of ds) ≡ map (λ d. d.corners) ds
 unfolding loop_of
@@ -193,14 +193,14 @@ one_order ls ds p r s =
 pub loops_in_order : (old new : List Drawn) → IsPermutation old new → IsSortedBy is_less_drawn new → AreLoopsInOrder old new
 unfolding AreLoopsInOrder
 loops_in_order old new p s = λ ws q a.
-    let ls = map loop_of (in_order ws) in
+    let ls = map loop_of (in_corner_order ws) in
     let walks = map (λ w. loop_of (drawing_of w)) ws in
-    let m : IsPermutation walks ls = subst (λ zs. IsPermutation zs ls) (map_twice drawing_of loop_of ws) (IsPermutation-map loop_of (map drawing_of ws) (in_order ws) (order_moves ws)) in
+    let m : IsPermutation walks ls = subst (λ zs. IsPermutation zs ls) (map_twice drawing_of loop_of ws) (IsPermutation-map loop_of (map drawing_of ws) (in_corner_order ws) (order_moves ws)) in
     let t = IsPermutation-trans ls walks (loops_in new) (IsPermutation-sym walks ls m) (IsPermutation-trans walks (loops_in old) (loops_in new) q (IsPermutation-map loop_in old new p)) in
-    one_order ls new t (subst (Rising IsListLess) (sym (loops_corners (in_order ws))) (rising_of IsListLess (map (λ d. d.corners) (in_order ws)) a)) s
+    one_order ls new t (subst (Rising IsListLess) (sym (loops_corners (in_corner_order ws))) (rising_of IsListLess (map (λ d. d.corners) (in_corner_order ws)) a)) s
 
 -- where the drawings are those of the walks in their order
-pub loops_told : (ws : List (List Edge)) (old new : List Drawn) → AreLoopsInOrder old new → loops_in old ≡ map (λ w. loop_of (drawing_of w)) ws → AllPairs IsListLess (map (λ d. d.corners) (in_order ws))
-    → loops_in new ≡ map loop_of (in_order ws)
+pub loops_told : (ws : List (List Edge)) (old new : List Drawn) → AreLoopsInOrder old new → loops_in old ≡ map (λ w. loop_of (drawing_of w)) ws → AllPairs IsListLess (map (λ d. d.corners) (in_corner_order ws))
+    → loops_in new ≡ map loop_of (in_corner_order ws)
 unfolding AreLoopsInOrder
 loops_told ws old new o e a = o ws (subst (IsPermutation (map (λ w. loop_of (drawing_of w)) ws)) (sym e) (IsPermutation-refl (map (λ w. loop_of (drawing_of w)) ws))) a

@@ -8,13 +8,13 @@ use Rattle.std.proofs.lemmas.Bool.{false≢true, or_parts}
 use Rattle.std.proofs.lemmas.Bool.Decides.{Decides-int_eq}
 use Rattle.std.proofs.lemmas.List.{get_or-drop, length-drop}
 use Rattle.grid_num.specs.declared.Point.{Point}
-use Rattle.covering.specs.Covering.{Edge}
-use Rattle.covering.proofs.Counts.{less_true, less_false}
-use Rattle.rings.specs.Tracing.{Reach, reach_more, reach_of}
+use Rattle.plane.specs.Covering.{Edge}
+use Rattle.plane.proofs.Counts.{less_true, less_false}
+use Rattle.rings.specs.Inner.Tracing.{Reach, reach_more, slit_reach}
 use Rattle.sheet_trace.specs.declared.edge.BoundaryEdge.{BoundaryEdge}
 use Rattle.sheet_trace.specs.Edges.{edge_of, edges_in}
 use Rattle.sheet_trace.specs.Next.{AreByStart, is_before}
-use Rattle.sheet_trace.specs.Turns.{x_by, reached}
+use Rattle.sheet_trace.specs.Inner.Turns.{x_by, reached}
 use Rattle.sheet_trace.proofs.Found.{bool_cases}
 use Rattle.sheet_trace.proofs.Ranges.{NotLater, before_told, start_at, in_order}
 
@@ -112,24 +112,24 @@ one_more h es d zero o l b = first_step h (edge_of (get_or es 0 d)) b
 one_more h es d (suc k) o l b = next_step h (start_at es k d) (edge_of (get_or es (suc k) d)) (in_order es o k (suc k) d (omega arith) l) b
 
 front_is : (h : Point) (es : List BoundaryEdge) (d : BoundaryEdge) (i : ℕ) → AreByStart es → i ≤ length es → ((k : ℕ) → k < i → is_before (start_at es k d) h ≡ true)
-    → reach_of h (so_far h es d i) (edges_in (drop i es)) ≡ reach_of h (nothing h) (edges_in es)
-unfolding so_far reach_of edges_in
+    → slit_reach h (so_far h es d i) (edges_in (drop i es)) ≡ slit_reach h (nothing h) (edges_in es)
+unfolding so_far slit_reach edges_in
 front_is h es d zero o l f = refl
 front_is h es d (suc k) o l f =
-    ap (λ r. reach_of h r (edges_in (drop (suc k) es))) (sym (one_more h es d k o (omega (arith, l)) (f k (omega arith))))
-    ∙ (ap (λ zs. reach_of h (so_far h es d k) (edges_in zs)) (sym (drop-cons es k d (omega (arith, l))))
+    ap (λ r. slit_reach h r (edges_in (drop (suc k) es))) (sym (one_more h es d k o (omega (arith, l)) (f k (omega arith))))
+    ∙ (ap (λ zs. slit_reach h (so_far h es d k) (edges_in zs)) (sym (drop-cons es k d (omega (arith, l))))
     ∙ front_is h es d k o (omega (arith, l)) (λ j m. f j (omega (arith, m))))
 
-back_is : (h : Point) (r : Reach) (es : List BoundaryEdge) → ((k : ℕ) (d : BoundaryEdge) → k < length es → is_before (start_at es k d) h ≡ false) → reach_of h r (edges_in es) ≡ r
-unfolding reach_of edges_in
+back_is : (h : Point) (r : Reach) (es : List BoundaryEdge) → ((k : ℕ) (d : BoundaryEdge) → k < length es → is_before (start_at es k d) h ≡ false) → slit_reach h r (edges_in es) ≡ r
+unfolding slit_reach edges_in
 back_is h r [] f = refl
 back_is h r (e ∷ es) f =
-    ap (λ q. reach_of h q (edges_in es)) (not_reached h r (edge_of e) (f 0 e (omega arith))) ∙ back_is h r es (λ k d l. f (suc k) d (omega (arith, l)))
+    ap (λ q. slit_reach h q (edges_in es)) (not_reached h r (edge_of e) (f 0 e (omega arith))) ∙ back_is h r es (λ k d l. f (suc k) d (omega (arith, l)))
 
 abbrev IsSplit : Point → List BoundaryEdge → ℕ → Type 0
 IsSplit h es i = IsPartitionPoint (λ (e : BoundaryEdge). is_before e.start h ≡ true) (λ (e : BoundaryEdge). is_before e.start h ≡ false) es i
 
-all_is : (h : Point) (es : List BoundaryEdge) (d : BoundaryEdge) (i : ℕ) → AreByStart es → i ≤ length es → IsSplit h es i → reach_of h (nothing h) (edges_in es) ≡ so_far h es d i
+all_is : (h : Point) (es : List BoundaryEdge) (d : BoundaryEdge) (i : ℕ) → AreByStart es → i ≤ length es → IsSplit h es i → slit_reach h (nothing h) (edges_in es) ≡ so_far h es d i
 all_is h es d i o l p =
     sym (front_is h es d i o l (λ k m. p.0 k d (omega arith) m))
     ∙ back_is h (so_far h es d i) (drop i es)
@@ -141,7 +141,7 @@ none_before h es d i o p z =
     let q = subst (IsSplit h es) z p in
     ap (λ (r : Reach). r.x) (sym (all_is h es d 0 o (omega arith) q))
 
-last_is : (h : Point) (es : List BoundaryEdge) (d : BoundaryEdge) (i : ℕ) → AreByStart es → i ≤ length es → IsSplit h es i → (i ≡ 0 → ⊥) → reach_of h (nothing h) (edges_in es) ≡ reach_by h (start_at es (i - 1) d)
+last_is : (h : Point) (es : List BoundaryEdge) (d : BoundaryEdge) (i : ℕ) → AreByStart es → i ≤ length es → IsSplit h es i → (i ≡ 0 → ⊥) → slit_reach h (nothing h) (edges_in es) ≡ reach_by h (start_at es (i - 1) d)
 unfolding so_far
 last_is h es d i o l p z =
     let e : i ≡ suc (i - 1) = omega (arith, z) in

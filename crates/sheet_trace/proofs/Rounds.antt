@@ -5,15 +5,15 @@ use Rattle.std.specs.List.{filter}
 use Rattle.std.proofs.lemmas.Bool.{cases_lt, lt-ltb, ltb-true, eq-eqb, ne_eqb, false_from_ne_true}
 use Rattle.std.proofs.lemmas.List.{append-nil, append_assoc, length-append, length-drop, length-take, get_or_append_left, get_or-append_right, get_or-drop, get_or-take, take_more}
 use Rattle.grid_num.specs.declared.Point.{Point}
-use Rattle.covering.specs.Covering.{Edge}
+use Rattle.plane.specs.Covering.{Edge}
 use Rattle.rings.specs.Turning.{direction}
-use Rattle.rings.specs.Walks.{Visit, visits, visits_after, corner, is_bend, bends, IsLess}
-use Rattle.rings.specs.Tracing.{is_same_point, is_less_point, is_less_list, lesser, least_from, contour_of}
+use Rattle.rings.specs.Walks.{Visit, visits, visits_after, visit_corner, is_bend, bends, IsLess}
+use Rattle.rings.specs.Inner.Tracing.{is_same_point, is_less_point, is_less_list, lesser_list, least_from, contour_of}
 use Rattle.rings.proofs.Order.{less_never}
 use Rattle.sheet_trace.specs.declared.edge.BoundaryEdge.{BoundaryEdge}
 use Rattle.sheet_trace.specs.Edges.{edge_of, edges_in}
 use Rattle.sheet_trace.specs.Next.{is_before, heading}
-use Rattle.sheet_trace.specs.Visits.{visit_of, bend_at, bends_after, place_around, begun_at}
+use Rattle.sheet_trace.specs.Inner.Visits.{visit_of, bend_at, bends_after, place_around, begun_at}
 use Rattle.sheet_trace.proofs.Folds.{drop_here, drop_all}
 use Rattle.sheet_trace.proofs.Opens.{same_told, before_is, less_told, visits_by}
 
@@ -22,7 +22,7 @@ heading_is : (e : BoundaryEdge) → heading e ≡ direction (edge_of e)
 unfolding heading direction
 heading_is e = refl
 
-bend_is : (v : Visit) (b : Bool) → is_bend v ≡ b → bend_at v ≡ (if b then corner v ∷ [] else [])
+bend_is : (v : Visit) (b : Bool) → is_bend v ≡ b → bend_at v ≡ (if b then visit_corner v ∷ [] else [])
 unfolding bend_at
 bend_is v b e = rw e refl
 
@@ -36,7 +36,7 @@ no_bend e f x y old p q h = sym (ap (λ zs. old ++ zs) (bend_is (visit_of e f) f
 pub some_bend : (e f : BoundaryEdge) (x y : ℕ) (old new : List Point) → x ≡ heading e → y ≡ heading f → (x ≡ y → ⊥) → new ≡ old ++ f.start ∷ [] → new ≡ old ++ bend_at (visit_of e f)
 some_bend e f x y old new p q h n = n ∙ sym (ap (λ zs. old ++ zs) (bend_is (visit_of e f) true (test_is e f x y p q ∙ ap not (ne_eqb x y h))))
 
-filter_one : (p : Visit → Bool) (v : Visit) (vs : List Visit) (b : Bool) → p v ≡ b → map corner (filter p (v ∷ vs)) ≡ (if b then corner v ∷ [] else []) ++ map corner (filter p vs)
+filter_one : (p : Visit → Bool) (v : Visit) (vs : List Visit) (b : Bool) → p v ≡ b → map visit_corner (filter p (v ∷ vs)) ≡ (if b then visit_corner v ∷ [] else []) ++ map visit_corner (filter p vs)
 filter_one p v vs true e = rw e refl
 filter_one p v vs false e = rw e refl
 
@@ -154,7 +154,7 @@ least_whole cs =
 pub least_first : (cs : List Point) (n : ℕ) → n ≡ length cs → begun_at cs 0 ≡ least_at cs n
 least_first cs n e = least_whole cs ∙ ap (least_at cs) (sym e)
 
-least_next : (cs : List Point) (i : ℕ) → i < length cs → least_at cs i ≡ lesser (begun_at cs i) (least_at cs (i + 1))
+least_next : (cs : List Point) (i : ℕ) → i < length cs → least_at cs i ≡ lesser_list (begun_at cs i) (least_at cs (i + 1))
 unfolding least_from
 least_next [] i l = absurd (omega (arith, l))
 least_next (d ∷ ds) i l =
@@ -162,19 +162,19 @@ least_next (d ∷ ds) i l =
     let c = get_or cs i d in
     let e = drop_here cs i d l in
     ap (λ zs. least_from (take i cs) zs) e
-    ∙ (ap (λ zs. lesser (zs ++ take i cs) (least_from (take i cs ++ c ∷ []) (drop (i + 1) cs))) (sym e)
-    ∙ ap (λ zs. lesser (begun_at cs i) (least_from zs (drop (i + 1) cs))) (sym (take_more cs i d l)))
+    ∙ (ap (λ zs. lesser_list (zs ++ take i cs) (least_from (take i cs ++ c ∷ []) (drop (i + 1) cs))) (sym e)
+    ∙ ap (λ zs. lesser_list (begun_at cs i) (least_from zs (drop (i + 1) cs))) (sym (take_more cs i d l)))
 
-lesser_by : (as' bs : List Point) (b : Bool) → is_less_list as' bs ≡ b → lesser as' bs ≡ (if b then as' else bs)
-unfolding lesser
+lesser_by : (as' bs : List Point) (b : Bool) → is_less_list as' bs ≡ b → lesser_list as' bs ≡ (if b then as' else bs)
+unfolding lesser_list
 lesser_by as' bs b e = rw e refl
 
 least_on : (cs : List Point) (step best i : ℕ) → step < length cs → i ≡ length cs - 1 - step → begun_at cs best ≡ least_at cs (length cs - step)
-    → least_at cs (length cs - (step + 1)) ≡ lesser (begun_at cs i) (begun_at cs best)
+    → least_at cs (length cs - (step + 1)) ≡ lesser_list (begun_at cs i) (begun_at cs best)
 least_on cs step best i l e h =
     let a : length cs - (step + 1) ≡ i = omega (arith, e) in
     let b : length cs - step ≡ i + 1 = omega (arith, e, l) in
-    ap (least_at cs) a ∙ (least_next cs i (omega (arith, e, l)) ∙ ap (lesser (begun_at cs i)) (sym (h ∙ ap (least_at cs) b)))
+    ap (least_at cs) a ∙ (least_next cs i (omega (arith, e, l)) ∙ ap (lesser_list (begun_at cs i)) (sym (h ∙ ap (least_at cs) b)))
 
 pub least_new : (cs : List Point) (step best i : ℕ) (b : Bool) → step < length cs → i ≡ length cs - 1 - step → b ≡ is_less_list (begun_at cs i) (begun_at cs best) → b ≡ true
     → begun_at cs best ≡ least_at cs (length cs - step) → begun_at cs i ≡ least_at cs (length cs - (step + 1))
@@ -192,7 +192,7 @@ pub contour_is : (es : List BoundaryEdge) (d : BoundaryEdge) (place : ℕ) (cs l
     → begun_at cs place ≡ least_from [] cs → list ≡ begun_at cs place → list ≡ contour_of (edges_in es)
 unfolding contour_of bends bends_after
 contour_is es d place cs list l c b e =
-    e ∙ (b ∙ ap (least_from []) (c ∙ ap (λ vs. map corner (filter is_bend vs)) (sym (visits_by es d l))))
+    e ∙ (b ∙ ap (least_from []) (c ∙ ap (λ vs. map visit_corner (filter is_bend vs)) (sym (visits_by es d l))))
 
 pub no_contour : (es : List BoundaryEdge) (list : List Point) → length es ≤ 0 → list ≡ [] → list ≡ contour_of (edges_in es)
 unfolding contour_of bends visits edges_in least_from

@@ -5,19 +5,19 @@ use Rattle.std.specs.List.{filter}
 use Rattle.std.proofs.lemmas.Bool.{cases_order}
 use Rattle.std.proofs.lemmas.List.{append-nil, append_assoc, length-append, get_or_default}
 use Rattle.grid_num.specs.declared.Point.{Point}
-use Rattle.covering.specs.Covering.{Edge}
+use Rattle.plane.specs.Covering.{Edge}
 use Rattle.rings.specs.Loops.{Loop}
 use Rattle.rings.specs.Laws.{HasOneNextEach}
 use Rattle.rings.specs.Walks.{visits}
-use Rattle.rings.specs.Tracing.{is_same_edge, is_one_of, next_of, follow, walk_of, walks_of, contour_of, is_open_left, some_visit, loop_of}
+use Rattle.rings.specs.Inner.Tracing.{is_same_edge, is_one_of, next_of, follow, walk_of, walks_of, contour_of, is_open_left, some_visit, loop_of}
 use Rattle.rings.proofs.Lists.{Has, of_has, has_right, NoRepeats}
 use Rattle.rings.proofs.Tracing.{edge_told, edge_meets, one_meets, next_is, filter_yes, filter_no}
 use Rattle.sheet_trace.specs.declared.edge.BoundaryEdge.{BoundaryEdge}
 use Rattle.sheet_trace.specs.Edges.{edge_of, edges_in}
 use Rattle.sheet_trace.specs.Next.{HasNext, IsNextAt}
 use Rattle.sheet_trace.specs.declared.order.Drawn.{Drawn}
-use Rattle.sheet_trace.specs.Order.{loop_in, loops_in}
-use Rattle.sheet_trace.specs.Walked.{no_edge, edge_at, unused, marked, loop_along, drawn_from, IsWalking}
+use Rattle.sheet_trace.specs.Inner.Order.{loop_in, loops_in}
+use Rattle.sheet_trace.specs.Inner.Walked.{no_edge, edge_at, unused, marked, loop_along, drawn_from, IsWalking}
 use Rattle.sheet_trace.proofs.Folds.{drop_here, drop_all}
 use Rattle.sheet_trace.proofs.Parts.{index_has}
 

@@ -1,9 +1,4 @@
 pub mod Edges
-pub mod Levels
 pub mod Next
-pub mod Visits
-pub mod Turns
-pub mod Order
-pub mod Walked
-pub mod Outlines
 pub mod Laws
+pub mod Inner

@@ -2,8 +2,8 @@
 use Rattle.std.specs.Prelude.{◌≡◌, ◌⊎◌, ℕ, ◌+◌, ◌-◌, ◌%◌, ◌≤◌, ◌<◌, Bool, ◌&&◌, ◌||◌, int_lt, if◌then◌else◌, List, length, ◌<ℤ◌, ◌≤ℤ◌, slice_index_or}
 use Rattle.std.specs.Ordering.{int_eq}
 use Rattle.grid_num.specs.declared.Point.{Point}
-use Rattle.covering.specs.Covering.{Edge}
-use Rattle.rings.specs.Turning.{IsNext}
+use Rattle.plane.specs.Covering.{Edge}
+use Rattle.rings.specs.Turning.{IsNextEdge}
 use Rattle.sheet_trace.specs.declared.edge.BoundaryEdge.{BoundaryEdge}
 use Rattle.sheet_trace.specs.Edges.{edge_of, edges_in}
 
@@ -14,16 +14,17 @@ AreByStart es = (k : ℕ) (d : BoundaryEdge) → k + 1 < length es → ((slice_i
 
 -- one of the edges is the next one after e
 abbrev pub HasNext : List BoundaryEdge → BoundaryEdge → Type 0
-HasNext es e = (f : Edge) × IsNext (edges_in es) (edge_of e) f
+HasNext es e = (f : Edge) × IsNextEdge (edges_in es) (edge_of e) f
 
 -- the edge in the place k is the next one after e
 unfoldable pub IsNextAt : List BoundaryEdge → BoundaryEdge → ℕ → Type 0
-IsNextAt es e k = (d : BoundaryEdge) → IsNext (edges_in es) (edge_of e) (edge_of (slice_index_or es k d))
+IsNextAt es e k = (d : BoundaryEdge) → IsNextEdge (edges_in es) (edge_of e) (edge_of (slice_index_or es k d))
 
 -- the code's test of the order of corners, its directions and its turns: the same as those of the rule
 unfoldable pub is_before : Point → Point → Bool
 is_before a b = int_lt a.y b.y || (int_eq a.y b.y && int_lt a.x b.x)
 
+-- the direction of a boundary edge
 unfoldable pub heading : BoundaryEdge → ℕ
 heading e =
     if int_lt e.start.x e.finish.x
@@ -33,6 +34,7 @@ heading e =
     then (if int_lt e.finish.y e.start.y then 3 else (if int_lt e.start.y e.finish.y then 5 else 4))
     else (if int_lt e.finish.y e.start.y then 2 else 6))
 
+-- the turn from one to another
 unfoldable pub turn_between : BoundaryEdge → BoundaryEdge → ℕ
 turn_between e f = (heading f + 11 - heading e) % 8 + 1
 

@@ -1,8 +1,8 @@
 // The contour of a walk: its corners without those that are passed straight, begun so that the list is least.
 ghost use Rattle.std.specs.Prelude.{◌≡◌, ◌++◌, ◌<◌, ◌≤◌, [], length, IfOk};
-ghost use Rattle.rings.specs.Tracing.{contour_of, is_less_list, least_from};
+ghost use Rattle.rings.specs.Inner.Tracing.{contour_of, is_less_list, least_from};
 ghost use Rattle.sheet_trace.specs.Edges.{edge_of, edges_in};
-ghost use Rattle.sheet_trace.specs.Visits.{visit_of, bend_at, bends_after, place_around, begun_at};
+ghost use Rattle.sheet_trace.specs.Inner.Visits.{visit_of, bend_at, bends_after, place_around, begun_at};
 
 use crate::edge::BoundaryEdge;
 use crate::next::{heading, is_before};

@@ -2,11 +2,11 @@
 ghost use Rattle.std.specs.Prelude.{◌≡◌, IfOk};
 ghost use Rattle.rings.specs.Laws.{HasOneNextEach};
 ghost use Rattle.rings.specs.Sheets.{AreLoops};
-ghost use Rattle.rings.specs.Tracing.{loops_by};
+ghost use Rattle.rings.specs.Inner.Tracing.{loops_by};
 ghost use Rattle.sheet_trace.specs.Edges.{edges_in};
 ghost use Rattle.sheet_trace.specs.Next.{AreByStart};
-ghost use Rattle.sheet_trace.specs.Order.{loop_in, loops_in};
-ghost use Rattle.sheet_trace.specs.Outlines.{AreEdgesOf, AreUnlike};
+ghost use Rattle.sheet_trace.specs.Inner.Order.{loop_in, loops_in};
+ghost use Rattle.sheet_trace.specs.Inner.Outlines.{AreEdgesOf, AreUnlike};
 ghost use Rattle.sheet_union.specs.Near.{IsSheet};
 
 use crate::boundary;
@@ -14,52 +14,10 @@ use crate::edge::BoundaryEdge;
 use crate::next::by_start;
 use crate::order::{Drawn, in_order};
 use crate::walk::drawings;
-use grid_num::{Memory, Point};
+use grid_num::Memory;
+use rings::Loop;
 use sheet_union::Sheet;
 use std::alloc::Global;
-use std::marker::Model;
-
-/// A loop along the boundary of a sheet: around copper, or around a hole in it.
-#[derive(Drop)]
-pub struct Loop {
-    corners: Vec<Point>,
-    hole: bool,
-}
-
-impl Model for Loop {
-    ghost use Rattle.rings.specs.Loops as defined;
-
-    ghost Value = { defined.Loop };
-
-    ghost view = { λ a. record { corners = a.corners.items; hole = a.hole } };
-}
-
-impl Loop {
-    // The loop that was drawn.
-    fn of(drawn: Drawn) -> Loop
-        ensures { result ≡ loop_in drawn }
-    {
-        Loop {
-            corners: drawn.corners,
-            hole: drawn.hole,
-        }
-    }
-
-    /// The corners in nanometres, in their order along the loop: copper is on its right. It begins at the least corner, by y and then by x, and
-    /// leaves out those that are passed straight.
-    pub fn corners(&self) -> &[Point]
-        ensures { result.now ≡ self.now.corners }
-    {
-        &self.corners
-    }
-
-    /// Whether it goes around a hole.
-    pub fn is_hole(&self) -> bool
-        ensures { result ≡ self.now.hole }
-    {
-        self.hole
-    }
-}
 
 /// The boundary edges of the sheet, by where they begin. Refuses for want of memory alone.
 pub fn listed(alloc: Global, sheet: &Sheet) -> Result<Vec<BoundaryEdge>, Memory>
@@ -83,13 +41,23 @@ pub fn contours(alloc: Global, edges: &[BoundaryEdge]) -> Result<Vec<Drawn>, Mem
     Ok(sorted)
 }
 
+// The loop that was drawn.
+fn loop_of(drawn: Drawn) -> Loop
+    ensures { result ≡ loop_in drawn }
+{
+    Loop {
+        corners: drawn.corners,
+        hole: drawn.hole,
+    }
+}
+
 // The loops that were drawn. Refuses for want of memory alone.
 fn loops_from(alloc: Global, drawings: Vec<Drawn>) -> Result<Vec<Loop>, Memory>
     ensures { IfOk result (λ v. v.items ≡ loops_in drawings.items) }
 {
     let mut loops = Vec::new(alloc);
     'each: for drawn in drawings {
-        loops.push(Loop::of(drawn))?;
+        loops.push(loop_of(drawn))?;
     }
     Ok(loops)
 }

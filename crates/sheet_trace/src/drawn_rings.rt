@@ -1,13 +1,13 @@
 // The rings of a sheet: along an outer loop, and by slits along the holes in it.
 ghost use Rattle.std.specs.Prelude.{◌≡◌, ◌∷◌, [], ◌++◌, pos, map, IfOk};
-ghost use Rattle.covering.specs.Edges.{both_ways};
+ghost use Rattle.plane.specs.Edges.{both_ways};
 ghost use Rattle.rings.specs.Rings.{holes_of};
 ghost use Rattle.rings.specs.Sheets.{AreRings};
-ghost use Rattle.rings.specs.Tracing.{slits_by};
+ghost use Rattle.rings.specs.Inner.Tracing.{slits_by};
 ghost use Rattle.sheet_trace.specs.Edges.{edges_in};
 ghost use Rattle.sheet_trace.specs.Next.{AreByStart};
-ghost use Rattle.sheet_trace.specs.Order.{loop_in, loops_in};
-ghost use Rattle.sheet_trace.specs.Outlines.{AreSlitted, corners_in, slit_along};
+ghost use Rattle.sheet_trace.specs.Inner.Order.{loop_in, loops_in};
+ghost use Rattle.sheet_trace.specs.Inner.Outlines.{AreSlitted, corners_in, slit_along};
 ghost use Rattle.strips.specs.Area.{area2_of};
 
 use crate::drawn_loops::{contours, listed};
@@ -16,74 +16,9 @@ use crate::next::by_start;
 use crate::order::Drawn;
 use crate::slit::slit;
 use grid_num::{Memory, Point};
+use rings::{Ring, Traced};
 use sheet_union::Sheet;
 use std::alloc::Global;
-use std::marker::Model;
-
-/// A ring of a sheet. Contracts see it as the list of its corners.
-#[derive(Drop)]
-pub struct Ring {
-    corners: Vec<Point>,
-}
-
-impl Model for Ring {
-    ghost use Rattle.std.specs.Prelude.{List};
-    ghost use Rattle.grid_num.specs.declared.Point.{Point};
-
-    ghost Value = { List Point };
-
-    ghost view = { λ a. a.corners.items };
-}
-
-impl Ring {
-    // The ring that was drawn.
-    fn of(drawn: Drawn) -> Ring
-        ensures { result ≡ drawn.corners.items }
-    {
-        Ring {
-            corners: drawn.corners,
-        }
-    }
-
-    /// The corners in nanometres, in their order along the ring: copper is on its right. It begins at the least corner, by y and then by x; where that
-    /// comes twice, so that the list is least. Corners that are passed straight are left out.
-    pub fn corners(&self) -> &[Point]
-        ensures { result.now ≡ self.now }
-    {
-        &self.corners
-    }
-}
-
-/// The outlines of a sheet: its rings, and twice its area.
-#[derive(Drop)]
-pub struct Traced {
-    rings: Vec<Ring>,
-    area2: u128,
-}
-
-impl Model for Traced {
-    ghost use Rattle.sheet_trace.specs.Outlines.{Outlines};
-
-    ghost Value = { Outlines };
-
-    ghost view = { λ a. record { rings = a.rings.items; area2 = a.area2 } };
-}
-
-impl Traced {
-    /// The rings, by their lists of corners.
-    pub fn rings(&self) -> &[Ring]
-        ensures { result.now ≡ self.now.rings }
-    {
-        &self.rings
-    }
-
-    /// Twice the area in square nanometres.
-    pub fn area2(&self) -> u128
-        ensures { result ≡ self.now.area2 }
-    {
-        self.area2
-    }
-}
 
 // Adds the slit from the first of the corners, there and back.
 fn put_slit(
@@ -154,13 +89,22 @@ fn slitted(
     Ok(sorted)
 }
 
+// The ring that was drawn.
+fn ring_of(drawn: Drawn) -> Ring
+    ensures { result ≡ corners_in drawn }
+{
+    Ring {
+        corners: drawn.corners,
+    }
+}
+
 // The rings that were drawn. Refuses for want of memory alone.
 fn rings_from(alloc: Global, drawings: Vec<Drawn>) -> Result<Vec<Ring>, Memory>
     ensures { IfOk result (λ v. v.items ≡ map corners_in drawings.items) }
 {
     let mut rings = Vec::new(alloc);
     'each: for drawn in drawings {
-        rings.push(Ring::of(drawn))?;
+        rings.push(ring_of(drawn))?;
     }
     Ok(rings)
 }

@@ -1,10 +1,10 @@
 // Whether a walk goes around a hole: at its least corner there is copper on the left.
 ghost use Rattle.std.specs.Prelude.{◌≡◌, ◌<◌, length};
-ghost use Rattle.rings.specs.Tracing.{is_open_left, some_visit};
+ghost use Rattle.rings.specs.Inner.Tracing.{is_open_left, some_visit};
 ghost use Rattle.rings.specs.Walks.{visits, visits_after};
 ghost use Rattle.sheet_trace.specs.Edges.{edge_of, edges_in};
-ghost use Rattle.sheet_trace.specs.Turns.{lesser_corner, least_corner, opens_at, turn_left};
-ghost use Rattle.sheet_trace.specs.Visits.{visit_of};
+ghost use Rattle.sheet_trace.specs.Inner.Turns.{lesser_corner, least_start, opens_at, turn_left};
+ghost use Rattle.sheet_trace.specs.Inner.Visits.{visit_of};
 
 use crate::edge::BoundaryEdge;
 use crate::next::{heading, is_before, turn};
@@ -12,7 +12,7 @@ use crate::order::is_same;
 use grid_num::Point;
 
 // The lesser of two corners: by y, and then by x.
-#[tactic(auto, unfolding(crate::specs::Turns::lesser_corner))]
+#[tactic(auto, unfolding(crate::specs::Inner::Turns::lesser_corner))]
 fn lesser(a: Point, b: Point) -> Point
     ensures { result ≡ lesser_corner a b }
 {
@@ -21,7 +21,7 @@ fn lesser(a: Point, b: Point) -> Point
 
 // The least of a corner and those at which the edges begin.
 fn least_corner(walk: &[BoundaryEdge], first: Point) -> Point
-    ensures { result ≡ least_corner first walk.now }
+    ensures { result ≡ least_start first walk.now }
 {
     let mut least = first;
     'each: for edge in walk {
@@ -31,7 +31,7 @@ fn least_corner(walk: &[BoundaryEdge], first: Point) -> Point
 }
 
 // How far one turns from the way back along an edge until one looks due left, in eighths of a turn.
-#[tactic(auto, unfolding(crate::specs::Turns::turn_left))]
+#[tactic(auto, unfolding(crate::specs::Inner::Turns::turn_left))]
 fn turn_left(edge: &BoundaryEdge) -> u32
     ensures { result ≡ turn_left edge.now }
 {

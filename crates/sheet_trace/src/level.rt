@@ -1,14 +1,14 @@
 // The level parts of the boundary: between neighbouring corners of a row, where copper is on just one side.
 ghost use Rattle.std.specs.Prelude.{◌≡◌, ◌++◌, IfOk};
 ghost use Rattle.sheet_union.specs.Near.{IsSheet};
-ghost use Rattle.sheet_trace.specs.Levels.{begins_by, begins_under, ends_by, ends_over, has_below, has_above, level_between, level_parts};
+ghost use Rattle.sheet_trace.specs.Inner.Levels.{begins_by, begins_under, ends_by, ends_over, has_below, has_above, level_between, level_parts};
 
 use crate::edge::BoundaryEdge;
 use grid_num::{Memory, Point};
 use strips::Strip;
 
 // Whether the strip's first row is above the corner's, or is that row and begins at the corner or on its left.
-#[tactic(auto, unfolding(crate::specs::Levels::begins_by))]
+#[tactic(auto, unfolding(crate::specs::Inner::Levels::begins_by))]
 fn begins_by(strip: &Strip, corner: Point) -> bool
     ensures { result ≡ begins_by corner strip.now }
 {
@@ -16,7 +16,7 @@ fn begins_by(strip: &Strip, corner: Point) -> bool
 }
 
 // The same of its last row.
-#[tactic(auto, unfolding(crate::specs::Levels::ends_by))]
+#[tactic(auto, unfolding(crate::specs::Inner::Levels::ends_by))]
 fn ends_by(strip: &Strip, corner: Point) -> bool
     ensures { result ≡ ends_by corner strip.now }
 {
@@ -24,7 +24,7 @@ fn ends_by(strip: &Strip, corner: Point) -> bool
 }
 
 // Whether the strip's first row goes on to the right of the corner.
-#[tactic(auto, unfolding(crate::specs::Levels::begins_under))]
+#[tactic(auto, unfolding(crate::specs::Inner::Levels::begins_under))]
 fn begins_under(strip: &Strip, corner: Point) -> bool
     ensures { result ≡ begins_under corner strip.now }
 {
@@ -32,7 +32,7 @@ fn begins_under(strip: &Strip, corner: Point) -> bool
 }
 
 // Whether its last row does.
-#[tactic(auto, unfolding(crate::specs::Levels::ends_over))]
+#[tactic(auto, unfolding(crate::specs::Inner::Levels::ends_over))]
 fn ends_over(strip: &Strip, corner: Point) -> bool
     ensures { result ≡ ends_over corner strip.now }
 {
@@ -59,7 +59,7 @@ fn has_above(strips: &[Strip], corner: Point) -> bool
 
 // Adds the level part between two corners that follow one another, if there is one: to the right with copper below it, or to the left with
 // copper above it.
-#[tactic(auto, unfolding(crate::specs::Levels::level_between))]
+#[tactic(auto, unfolding(crate::specs::Inner::Levels::level_between))]
 fn put_level_part(
     edges: &mut Vec<BoundaryEdge>,
     strips: &[Strip],

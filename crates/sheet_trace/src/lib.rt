@@ -6,51 +6,44 @@
 ghost use Rattle.std.specs.Prelude.{IfOk};
 ghost use Rattle.rings.specs.Boundary.{AreBoundary};
 ghost use Rattle.sheet_trace.specs.Edges.{edges_in};
-ghost use Rattle.sheet_trace.specs.Laws.{OneLoopsLaw, OneRingsLaw, LoopsCoverLaw, RingsCoverLaw, UnionCoverLaw};
+ghost use Rattle.sheet_trace.specs.Laws.{OneSheetLoopsLaw, OneSheetRingsLaw, SheetLoopsCoverLaw, SheetRingsCoverLaw, SheetUnionCoverLaw};
 ghost use Rattle.sheet_union.specs.Near.{IsSheet};
 
-#[cfg(test)]
-mod board_tests;
 mod contour;
 mod drawn_loops;
 mod drawn_rings;
 mod edge;
 mod hole;
 mod level;
-#[cfg(test)]
-mod many_tests;
 mod next;
 mod order;
 mod sides;
 mod slit;
-#[cfg(test)]
-mod tests;
 mod walk;
-#[cfg(test)]
-mod zone_tests;
 
-pub use crate::drawn_loops::{Loop, loops};
-pub use crate::drawn_rings::{Ring, Traced, polygons, trace};
+pub use crate::drawn_loops::loops;
+pub use crate::drawn_rings::{polygons, trace};
 pub use crate::edge::BoundaryEdge;
 use crate::level::put_level_parts;
 pub use crate::next::{by_start, next_place};
 use crate::sides::{corners_of, sides_of};
 use grid_num::Memory;
+pub use rings::{Loop, Ring, Traced};
 use sheet_union::Sheet;
 use std::alloc::Global;
 
 /// Just one list of loops is right for a sheet, and just one list of rings.
 pub fn one_law()
-    ensures loops { OneLoopsLaw }
-    ensures rings { OneRingsLaw }
+    ensures loops { OneSheetLoopsLaw }
+    ensures rings { OneSheetRingsLaw }
 {}
 
 /// The loops of a sheet, counted together by the even-odd rule, cover exactly its points, and so do its rings; so these cover exactly the octagons of
 /// which it is the union.
 pub fn cover_law()
-    ensures loops { LoopsCoverLaw }
-    ensures rings { RingsCoverLaw }
-    ensures union { UnionCoverLaw }
+    ensures loops { SheetLoopsCoverLaw }
+    ensures rings { SheetRingsCoverLaw }
+    ensures union { SheetUnionCoverLaw }
 {}
 
 /// The boundary edges of the sheet: the sides of its strips and the level parts, each once. It also hands out what every sheet is.

@@ -2,8 +2,8 @@
 ghost use Rattle.std.specs.Prelude.{◌≡◌, IfOk};
 ghost use Rattle.std.specs.List.Sorted.{IsPermutation, IsSortedBy};
 ghost use Rattle.std.specs.Ordering.{is_lt};
-ghost use Rattle.rings.specs.Tracing.{is_same_point, is_less_list};
-ghost use Rattle.sheet_trace.specs.Order.{is_less_drawn, AreLoopsInOrder};
+ghost use Rattle.rings.specs.Inner.Tracing.{is_same_point, is_less_list};
+ghost use Rattle.sheet_trace.specs.Inner.Order.{is_less_drawn, AreLoopsInOrder};
 
 use crate::next::is_before;
 use grid_num::{Memory, Point};
@@ -19,7 +19,7 @@ pub struct Drawn {
 }
 
 // Whether two corners are one.
-#[tactic(auto, unfolding(rings::specs::Tracing::is_same_point))]
+#[tactic(auto, unfolding(rings::specs::Inner::Tracing::is_same_point))]
 pub fn is_same(a: Point, b: Point) -> bool
     ensures { result ≡ is_same_point a b }
 {

@@ -1,7 +1,7 @@
 // The sides of strips, and their ends.
 ghost use Rattle.std.specs.Prelude.{◌≡◌, ◌++◌, IfOk};
 ghost use Rattle.std.specs.List.Sorted.{IsPermutation};
-ghost use Rattle.sheet_trace.specs.Edges.{left_side, right_side, sides_of, ends_of, AreFromTop};
+ghost use Rattle.sheet_trace.specs.Edges.{left_side, right_side, strip_sides, edge_ends, ArePointsFromTop};
 
 use crate::edge::BoundaryEdge;
 use grid_num::{Memory, Point};
@@ -42,7 +42,7 @@ fn right_side(strip: Strip) -> BoundaryEdge
 
 /// The sides of the strips. Refuses for want of memory alone.
 pub fn sides_of(alloc: Global, strips: &[Strip]) -> Result<Vec<BoundaryEdge>, Memory>
-    ensures { IfOk result (λ v. v.items ≡ sides_of strips.now) }
+    ensures { IfOk result (λ v. v.items ≡ strip_sides strips.now) }
 {
     let mut sides = Vec::new(alloc);
     'each: for strip in strips {
@@ -54,7 +54,7 @@ pub fn sides_of(alloc: Global, strips: &[Strip]) -> Result<Vec<BoundaryEdge>, Me
 
 // The ends of edges, as they stand.
 fn ends_of(alloc: Global, edges: &[BoundaryEdge]) -> Result<Vec<Point>, Memory>
-    ensures { IfOk result (λ v. v.items ≡ ends_of edges.now) }
+    ensures { IfOk result (λ v. v.items ≡ edge_ends edges.now) }
 {
     let mut ends = Vec::new(alloc);
     'each: for edge in edges {
@@ -66,8 +66,8 @@ fn ends_of(alloc: Global, edges: &[BoundaryEdge]) -> Result<Vec<Point>, Memory>
 
 /// The ends of edges, from the top and in each row from the left. Refuses for want of memory alone.
 pub fn corners_of(alloc: Global, edges: &[BoundaryEdge]) -> Result<Vec<Point>, Memory>
-    ensures ends { IfOk result (λ v. IsPermutation (ends_of edges.now) v.items) }
-    ensures order { IfOk result (λ v. AreFromTop v.items) }
+    ensures ends { IfOk result (λ v. IsPermutation (edge_ends edges.now) v.items) }
+    ensures order { IfOk result (λ v. ArePointsFromTop v.items) }
 {
     let mut corners = ends_of(alloc, edges)?;
     corners.sort_by_key(|corner| (corner.y, corner.x))?;

@@ -1,11 +1,11 @@
 // Walks from edge to next edge until the first one comes again, and what they draw.
 ghost use Rattle.std.specs.Prelude.{◌≡◌, ◌+◌, ◌≤◌, ◌<◌, ◌++◌, ◌∷◌, [], true, length, map, slice_set, IfOk};
 ghost use Rattle.rings.specs.Laws.{HasOneNextEach};
-ghost use Rattle.rings.specs.Tracing.{next_of, walk_of, walks_of};
+ghost use Rattle.rings.specs.Inner.Tracing.{next_of, walk_of, walks_of};
 ghost use Rattle.sheet_trace.specs.Edges.{edges_in};
 ghost use Rattle.sheet_trace.specs.Next.{AreByStart};
-ghost use Rattle.sheet_trace.specs.Order.{loop_in, loops_in};
-ghost use Rattle.sheet_trace.specs.Walked.{edge_at, marked, loop_along, drawn_from};
+ghost use Rattle.sheet_trace.specs.Inner.Order.{loop_in, loops_in};
+ghost use Rattle.sheet_trace.specs.Inner.Walked.{edge_at, marked, loop_along, drawn_from};
 
 use crate::contour::contour;
 use crate::edge::BoundaryEdge;

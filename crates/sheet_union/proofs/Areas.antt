@@ -4,11 +4,11 @@ use Rattle.std.specs.Prelude.{ℤ, pos, ◌+ℤ◌, ◌-ℤ◌, ◌*ℤ◌, ◌�
 use Rattle.std.specs.Int.RustNames.{unsigned_abs}
 use Rattle.std.proofs.lemmas.Int.{ints}
 use mir.Syntax.{w128}
-use Rattle.plane.proofs.Times.{mul_le, mul_add}
+use Rattle.grid_num.proofs.Products.{mul_le, mul_add}
 use Rattle.strips.specs.declared.Strip.{Strip}
-use Rattle.strips.specs.Strips.{IsTrapezoid, IsApart}
+use Rattle.strips.specs.Strips.{IsTrapezoid, AreApartInSlab}
 use Rattle.strips.specs.Area.{strip_area2, area2_of}
-use Rattle.sheet_union.specs.Near.{IsNear, IsSheet}
+use Rattle.sheet_union.specs.Near.{IsNearStrip, IsSheet}
 use Rattle.sheet_union.proofs.Walks.{none_left}
 
 -- a height that isn't negative, as a number
@@ -27,7 +27,7 @@ IsWithinRoom [] = Unit {0}
 IsWithinRoom (s ∷ ss) = area2_of (s ∷ ss) ≤ℤ (room_below s +ℤ room_beside s)
 
 -- the last strip
-last_room : (s : Strip) (n : ℕ) → IsNear s → s.bottom -ℤ s.top ≡ pos n → strip_area2 s ≤ℤ (room_below s +ℤ room_beside s)
+last_room : (s : Strip) (n : ℕ) → IsNearStrip s → s.bottom -ℤ s.top ≡ pos n → strip_area2 s ≤ℤ (room_below s +ℤ room_beside s)
 last_room s n k e =
     let b = k.bottom in
     let r = k.right in
@@ -40,7 +40,7 @@ last_room s n k e =
     omega (arith, ints, l, f, g, b)
 
 -- a strip with the room of the next one below it
-below_room : (s t : Strip) (n m : ℕ) → IsNear s → IsNear t → s.bottom -ℤ s.top ≡ pos n → t.bottom -ℤ t.top ≡ pos m → s.bottom ≤ℤ t.top
+below_room : (s t : Strip) (n m : ℕ) → IsNearStrip s → IsNearStrip t → s.bottom -ℤ s.top ≡ pos n → t.bottom -ℤ t.top ≡ pos m → s.bottom ≤ℤ t.top
     → (strip_area2 s +ℤ (room_below t +ℤ room_beside t)) ≤ℤ (room_below s +ℤ room_beside s)
 below_room s t n m k j e h d =
     let r = k.right in
@@ -58,7 +58,7 @@ below_room s t n m k j e h d =
     omega (arith, ints, l, i, f, g, p, h, d)
 
 -- a strip with the room of the next one beside it
-beside_room : (s t : Strip) (n : ℕ) → s.bottom -ℤ s.top ≡ pos n → s.top ≡ t.top → s.bottom ≡ t.bottom → IsApart s t
+beside_room : (s t : Strip) (n : ℕ) → s.bottom -ℤ s.top ≡ pos n → s.top ≡ t.top → s.bottom ≡ t.bottom → AreApartInSlab s t
     → (strip_area2 s +ℤ (room_below t +ℤ room_beside t)) ≤ℤ (room_below s +ℤ room_beside s)
 beside_room s t n e a b h =
     let w = (s.right -ℤ s.left) +ℤ (s.right_end -ℤ s.left_end) in

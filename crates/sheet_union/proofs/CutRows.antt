@@ -7,12 +7,12 @@ use Rattle.std.proofs.lemmas.Bool.{false≢true}
 use native.Mathlib.Numerals.{unary_clauses}
 use Rattle.plane.specs.Plane.{Bounds, Within, times, IsTight, IsOct}
 use Rattle.plane.proofs.Times.{IsTight-times}
-use Rattle.covering.proofs.Counts.{less_false, most_true, most_false}
+use Rattle.plane.proofs.Counts.{less_false, most_true, most_false}
 use Rattle.strips.specs.Strips.{Direction, Level, Upright, Rising, Falling, in_nanometres}
 use Rattle.strips.proofs.Cuts.{IsSideAt, IsCutAt}
 use Rattle.strips.proofs.Lines.{upright_falling, upright_rising, rising_falling, cut_top, cut_bottom}
-use Rattle.sheet_union.specs.Crossings.{is_between, is_on, met, on_rising, on_falling, on_slants, upright_rows, rising_rows, half_rows, crossing_rows, later_rows, rows_of, all_rows}
-use Rattle.sheet_union.specs.Rows.{AreFromTop}
+use Rattle.sheet_union.specs.Inner.Crossings.{is_within_twice, is_on_oct, met, on_rising, on_falling, on_slants, upright_rows, rising_rows, half_rows, crossing_rows, later_rows, cut_rows_of, all_rows}
+use Rattle.sheet_union.specs.Inner.Rows.{AreFromTop}
 use Rattle.sheet_union.proofs.Members.{IsOne, one_of, contains_of, one_left, one_right, one_cases, one_map, one_back}
 
 -- ---- tests
@@ -23,35 +23,35 @@ both_true false q e = absurd (false≢true e)
 le_from : (a b : ℤ) → int_le a b ≡ true → a ≤ℤ b
 le_from a b e = by_lt_z {P = a ≤ℤ b} b a (λ l. absurd (false≢true (sym (most_false a b l) ∙ e))) (λ l. l)
 
-between_from : (low v high : ℤ) → is_between low v high ≡ true → ((pos 2 *ℤ low) ≤ℤ v) × (v ≤ℤ (pos 2 *ℤ high))
+between_from : (low v high : ℤ) → is_within_twice low v high ≡ true → ((pos 2 *ℤ low) ≤ℤ v) × (v ≤ℤ (pos 2 *ℤ high))
 between_from low v high e = let w = both_true (int_le (pos 2 *ℤ low) v) (int_le v (pos 2 *ℤ high)) e in (le_from (pos 2 *ℤ low) v w.0, le_from v (pos 2 *ℤ high) w.1)
 
-between_true : (low v high : ℤ) → (pos 2 *ℤ low) ≤ℤ v → v ≤ℤ (pos 2 *ℤ high) → is_between low v high ≡ true
+between_true : (low v high : ℤ) → (pos 2 *ℤ low) ≤ℤ v → v ≤ℤ (pos 2 *ℤ high) → is_within_twice low v high ≡ true
 between_true low v high h k = rw (most_true (pos 2 *ℤ low) v h, most_true v (pos 2 *ℤ high) k) refl
 
-on_from : (b : Bounds) (x y : ℤ) → is_on b x y ≡ true → Within (times 2 b) x y
-unfolding is_on
+on_from : (b : Bounds) (x y : ℤ) → is_on_oct b x y ≡ true → Within (times 2 b) x y
+unfolding is_on_oct
 on_from b x y e =
-    let p = both_true (is_between b.x0 x b.x1) (is_between b.y0 y b.y1 && (is_between b.s0 (x +ℤ y) b.s1 && is_between b.d0 (x -ℤ y) b.d1)) e in
-    let q = both_true (is_between b.y0 y b.y1) (is_between b.s0 (x +ℤ y) b.s1 && is_between b.d0 (x -ℤ y) b.d1) p.1 in
-    let r = both_true (is_between b.s0 (x +ℤ y) b.s1) (is_between b.d0 (x -ℤ y) b.d1) q.1 in
+    let p = both_true (is_within_twice b.x0 x b.x1) (is_within_twice b.y0 y b.y1 && (is_within_twice b.s0 (x +ℤ y) b.s1 && is_within_twice b.d0 (x -ℤ y) b.d1)) e in
+    let q = both_true (is_within_twice b.y0 y b.y1) (is_within_twice b.s0 (x +ℤ y) b.s1 && is_within_twice b.d0 (x -ℤ y) b.d1) p.1 in
+    let r = both_true (is_within_twice b.s0 (x +ℤ y) b.s1) (is_within_twice b.d0 (x -ℤ y) b.d1) q.1 in
     let f = between_from b.x0 x b.x1 p.0 in
     let g = between_from b.y0 y b.y1 q.0 in
     let h = between_from b.s0 (x +ℤ y) b.s1 r.0 in
     let k = between_from b.d0 (x -ℤ y) b.d1 r.1 in
     record { x_low = f.0; x_high = f.1; y_low = g.0; y_high = g.1; s_low = h.0; s_high = h.1; d_low = k.0; d_high = k.1 }
 
-on_true : (b : Bounds) (x y : ℤ) → Within (times 2 b) x y → is_on b x y ≡ true
-unfolding is_on
+on_true : (b : Bounds) (x y : ℤ) → Within (times 2 b) x y → is_on_oct b x y ≡ true
+unfolding is_on_oct
 on_true b x y w =
     rw (between_true b.x0 x b.x1 w.x_low w.x_high, between_true b.y0 y b.y1 w.y_low w.y_high, between_true b.s0 (x +ℤ y) b.s1 w.s_low w.s_high, between_true b.d0 (x -ℤ y) b.d1 w.d_low w.d_high) refl
 
 -- ---- one place
 met_from : (a b : Bounds) (x y r : ℤ) → IsOne (met a b x y) r → (r ≡ y) × Within (times 2 a) x y × Within (times 2 b) x y
 unfolding met IsOne
-met_from a b x y r i = go (is_on a x y) (is_on b x y) refl refl i
+met_from a b x y r i = go (is_on_oct a x y) (is_on_oct b x y) refl refl i
   where
-    go : (p q : Bool) → is_on a x y ≡ p → is_on b x y ≡ q → IsOne (if p then (if q then y ∷ [] else []) else []) r
+    go : (p q : Bool) → is_on_oct a x y ≡ p → is_on_oct b x y ≡ q → IsOne (if p then (if q then y ∷ [] else []) else []) r
         → (r ≡ y) × Within (times 2 a) x y × Within (times 2 b) x y
     go true true e f (inl g) = (g, on_from a x y e, on_from b x y f)
     go true true e f (inr g) = absurd g
@@ -192,8 +192,8 @@ ends_cut os a r t f (inl e) = subst (IsCutAt (in_nanometres os)) (sym e) (cut_to
 ends_cut os a r t f (inr (inl e)) = subst (IsCutAt (in_nanometres os)) (sym e) (cut_bottom (in_nanometres os) (times 2 a) f (IsTight-times 2 a t))
 ends_cut os a r t f (inr (inr e)) = absurd e
 
-rows_cut : (os : List Bounds) (a : Bounds) (bs : List Bounds) (r : ℤ) → IsTight a → IsOf os a → ((b : Bounds) → IsOne bs b → IsOf os b) → IsOne (rows_of a bs) r → IsCutAt (in_nanometres os) r
-unfolding rows_of
+rows_cut : (os : List Bounds) (a : Bounds) (bs : List Bounds) (r : ℤ) → IsTight a → IsOf os a → ((b : Bounds) → IsOne bs b → IsOf os b) → IsOne (cut_rows_of a bs) r → IsCutAt (in_nanometres os) r
+unfolding cut_rows_of
 rows_cut os a bs r t f g i =
     let e = (pos 2 *ℤ a.y0) ∷ (pos 2 *ℤ a.y1) ∷ [] in
     elim (one_cases (e ++ half_rows a a) (later_rows a bs) r i) [
@@ -208,7 +208,7 @@ all_cut : (os bs : List Bounds) (r : ℤ) → All IsOct bs → ((b : Bounds) →
 unfolding all_rows IsOne
 all_cut os [] r t g i = absurd i
 all_cut os (a ∷ bs) r t g i =
-    elim (one_cases (rows_of a bs) (all_rows bs) r i) [
+    elim (one_cases (cut_rows_of a bs) (all_rows bs) r i) [
       | inl j ↦ rows_cut os a bs r (t 0 a (omega arith)).tight (g a (inl refl)) (λ c e. g c (inr e)) j
       | inr j ↦ all_cut os bs r (tail_all IsOct a bs t) (λ c e. g c (inr e)) j
     ]
@@ -268,43 +268,43 @@ later_in a b (c ∷ bs) r h (inr i) l j =
     let k : c.y0 ≤ℤ a.y1 = omega (arith, ints, m, l) in
     rw (less_false a.y1 c.y0 k) (one_right (crossing_rows a c) (later_rows a bs) r (later_in a b bs r (tail_from_top c bs h) i l j))
 
-own_in : (a : Bounds) (bs : List Bounds) (r : ℤ) → IsOne (half_rows a a) r → IsOne (rows_of a bs) r
-unfolding rows_of
+own_in : (a : Bounds) (bs : List Bounds) (r : ℤ) → IsOne (half_rows a a) r → IsOne (cut_rows_of a bs) r
+unfolding cut_rows_of
 own_in a bs r i =
     let e = (pos 2 *ℤ a.y0) ∷ (pos 2 *ℤ a.y1) ∷ [] in
     one_left (e ++ half_rows a a) (later_rows a bs) r (one_right e (half_rows a a) r i)
 
-with_later : (a : Bounds) (bs : List Bounds) (r : ℤ) → IsOne (later_rows a bs) r → IsOne (rows_of a bs) r
-unfolding rows_of
+with_later : (a : Bounds) (bs : List Bounds) (r : ℤ) → IsOne (later_rows a bs) r → IsOne (cut_rows_of a bs) r
+unfolding cut_rows_of
 with_later a bs r i = one_right (((pos 2 *ℤ a.y0) ∷ (pos 2 *ℤ a.y1) ∷ []) ++ half_rows a a) (later_rows a bs) r i
 
 half_in : (a b : Bounds) (bs : List Bounds) (r : ℤ) → AreFromTop bs → IsOne bs a → IsOne bs b → IsBeside a b → IsOne (half_rows a b) r → IsOne (all_rows bs) r
 unfolding all_rows IsOne
 half_in a b [] r h i j s k = absurd i
 half_in a b (c ∷ bs) r h (inl e) (inl f) s k =
-    one_left (rows_of c bs) (all_rows bs) r (own_in c bs r (subst (λ (z : Bounds). IsOne (half_rows z c) r) e (subst (λ (z : Bounds). IsOne (half_rows a z) r) f k)))
+    one_left (cut_rows_of c bs) (all_rows bs) r (own_in c bs r (subst (λ (z : Bounds). IsOne (half_rows z c) r) e (subst (λ (z : Bounds). IsOne (half_rows a z) r) f k)))
 half_in a b (c ∷ bs) r h (inl e) (inr j) s k =
-    one_left (rows_of c bs) (all_rows bs) r
-    (subst (λ (z : Bounds). IsOne (rows_of z bs) r) e
+    one_left (cut_rows_of c bs) (all_rows bs) r
+    (subst (λ (z : Bounds). IsOne (cut_rows_of z bs) r) e
     (with_later a bs r (later_in a b bs r (tail_from_top c bs h) j s.y_ba (crossing_half a b r s (inl k)))))
 half_in a b (c ∷ bs) r h (inr i) (inl f) s k =
-    one_left (rows_of c bs) (all_rows bs) r
-    (subst (λ (z : Bounds). IsOne (rows_of z bs) r) f
+    one_left (cut_rows_of c bs) (all_rows bs) r
+    (subst (λ (z : Bounds). IsOne (cut_rows_of z bs) r) f
     (with_later b bs r (later_in b a bs r (tail_from_top c bs h) i s.y_ab (crossing_half b a r (turned a b s) (inr k)))))
-half_in a b (c ∷ bs) r h (inr i) (inr j) s k = one_right (rows_of c bs) (all_rows bs) r (half_in a b bs r (tail_from_top c bs h) i j s k)
+half_in a b (c ∷ bs) r h (inr i) (inr j) s k = one_right (cut_rows_of c bs) (all_rows bs) r (half_in a b bs r (tail_from_top c bs h) i j s k)
 
 ends_in : (a : Bounds) (bs : List Bounds) (r : ℤ) → IsOne bs a → ((r ≡ pos 2 *ℤ a.y0) ⊎ (r ≡ pos 2 *ℤ a.y1)) → IsOne (all_rows bs) r
-unfolding all_rows rows_of IsOne
+unfolding all_rows cut_rows_of IsOne
 ends_in a [] r i e = absurd i
 ends_in a (c ∷ bs) r (inl f) e =
     let p = (pos 2 *ℤ c.y0) ∷ (pos 2 *ℤ c.y1) ∷ [] in
-    one_left (rows_of c bs) (all_rows bs) r
+    one_left (cut_rows_of c bs) (all_rows bs) r
     (one_left (p ++ half_rows c c) (later_rows c bs) r
     (one_left p (half_rows c c) r (elim e [
       | inl g ↦ inl (subst (λ (z : Bounds). r ≡ pos 2 *ℤ z.y0) f g)
       | inr g ↦ inr (inl (subst (λ (z : Bounds). r ≡ pos 2 *ℤ z.y1) f g))
     ])))
-ends_in a (c ∷ bs) r (inr i) e = one_right (rows_of c bs) (all_rows bs) r (ends_in a bs r i e)
+ends_in a (c ∷ bs) r (inr i) e = one_right (cut_rows_of c bs) (all_rows bs) r (ends_in a bs r i e)
 
 -- ---- from two sides to the place
 half_x : (x u v : ℤ) → ((x ≡ pos 2 *ℤ u) ⊎ (x ≡ pos 2 *ℤ v)) → (z : ℤ) × ((z ≡ u) ⊎ (z ≡ v)) × (x ≡ pos 2 *ℤ z)

@@ -11,13 +11,13 @@ use native.Mathlib.Numerals.{unary_clauses}
 use Rattle.plane.specs.Plane.{Bounds, IsOct}
 use Rattle.strips.specs.declared.Strip.{Strip}
 use Rattle.strips.specs.Strips.{HasInside, AreStrips, AreCovering, in_nanometres}
-use Rattle.strips.specs.Runs.{Reaches, runs_of}
-use Rattle.strips.specs.Merge.{merged}
-use Rattle.strips.specs.Sweep.{AreSlabStrips, AreSheetStrips}
+use Rattle.strips.specs.Inner.Runs.{ReachesAcross, runs_of}
+use Rattle.strips.specs.Inner.Merge.{merged}
+use Rattle.strips.specs.Inner.Sweep.{AreSlabStrips, AreSheetStrips}
 use Rattle.strips.proofs.Once.{once_law}
-use Rattle.sheet_union.specs.Crossings.{all_rows}
-use Rattle.sheet_union.specs.Rows.{AreFromTop}
-use Rattle.sheet_union.specs.Laws.{CoverLaw}
+use Rattle.sheet_union.specs.Inner.Crossings.{all_rows}
+use Rattle.sheet_union.specs.Inner.Rows.{AreFromTop}
+use Rattle.sheet_union.specs.Laws.{StripsCoverLaw}
 use Rattle.sheet_union.proofs.Members.{IsOne, one_of, contains_of}
 use Rattle.sheet_union.proofs.Sorted.{cut_rows_are}
 use Rattle.sheet_union.proofs.Whole.{sheet_is}
@@ -87,16 +87,16 @@ int_sorted xs h k d l m = not_less (get_or xs (k + 1) d) (get_or xs k d) (rising
 
 -- ---- the strips of one slab, and of all
 open_exists : (os bs : List Bounds) (t u : ℤ) → ((b : Bounds) → IsOne bs b → Contains os b)
-    → (qs : List Bounds) × All (λ b. Contains os b × Reaches b t u) qs × ((b : Bounds) → IsOne bs b → Reaches b t u → IsOne qs b)
+    → (qs : List Bounds) × All (λ b. Contains os b × ReachesAcross b t u) qs × ((b : Bounds) → IsOne bs b → ReachesAcross b t u → IsOne qs b)
 unfolding IsOne
-open_exists os [] t u f = ([], All-nil (λ b. Contains os b × Reaches b t u), λ b i r. absurd i)
+open_exists os [] t u f = ([], All-nil (λ b. Contains os b × ReachesAcross b t u), λ b i r. absurd i)
 open_exists os (b ∷ bs) t u f =
     let w = open_exists os bs t u (λ c i. f c (inr i)) in
-    by_lt_z {P = (qs : List Bounds) × All (λ c. Contains os c × Reaches c t u) qs × ((c : Bounds) → IsOne (b ∷ bs) c → Reaches c t u → IsOne qs c)} t b.y0
-    (λ l. (w.0, w.1, λ c i r. elim i [ inl e ↦ absurd (let q = subst (λ (z : Bounds). Reaches z t u) e r in let m = q.0 in omega (arith, ints, l, m)) | inr j ↦ w.2 c j r ]))
-    (λ l. by_lt_z {P = (qs : List Bounds) × All (λ c. Contains os c × Reaches c t u) qs × ((c : Bounds) → IsOne (b ∷ bs) c → Reaches c t u → IsOne qs c)} b.y1 u
-    (λ m. (w.0, w.1, λ c i r. elim i [ inl e ↦ absurd (let q = subst (λ (z : Bounds). Reaches z t u) e r in let k = q.1 in omega (arith, ints, m, k)) | inr j ↦ w.2 c j r ]))
-    (λ m. (b ∷ w.0, All-cons (λ c. Contains os c × Reaches c t u) b w.0 (f b (inl refl), (l, m)) w.1, λ c i r. elim i [ inl e ↦ inl e | inr j ↦ inr (w.2 c j r) ])))
+    by_lt_z {P = (qs : List Bounds) × All (λ c. Contains os c × ReachesAcross c t u) qs × ((c : Bounds) → IsOne (b ∷ bs) c → ReachesAcross c t u → IsOne qs c)} t b.y0
+    (λ l. (w.0, w.1, λ c i r. elim i [ inl e ↦ absurd (let q = subst (λ (z : Bounds). ReachesAcross z t u) e r in let m = q.0 in omega (arith, ints, l, m)) | inr j ↦ w.2 c j r ]))
+    (λ l. by_lt_z {P = (qs : List Bounds) × All (λ c. Contains os c × ReachesAcross c t u) qs × ((c : Bounds) → IsOne (b ∷ bs) c → ReachesAcross c t u → IsOne qs c)} b.y1 u
+    (λ m. (w.0, w.1, λ c i r. elim i [ inl e ↦ absurd (let q = subst (λ (z : Bounds). ReachesAcross z t u) e r in let k = q.1 in omega (arith, ints, m, k)) | inr j ↦ w.2 c j r ]))
+    (λ m. (b ∷ w.0, All-cons (λ c. Contains os c × ReachesAcross c t u) b w.0 (f b (inl refl), (l, m)) w.1, λ c i r. elim i [ inl e ↦ inl e | inr j ↦ inr (w.2 c j r) ])))
 
 slab_exists : (os : List Bounds) (t u : ℤ) → (xs : List Strip) × AreSlabStrips os t u xs
 unfolding IsSortOf
@@ -135,7 +135,7 @@ strips_exist octs o h =
     let z = sheet_is octs w.0 rows s.0 h w.1.0 k (cut_rows_are w.0 v.0 top k v.1.0 (int_sorted v.0 v.1.1)) s.1 in
     (s.0, z.0, z.1)
 
-pub cover_law : CoverLaw
+pub cover_law : StripsCoverLaw
 cover_law octs ss o h f =
     let w = strips_exist octs o h in
     subst (AreCovering (in_nanometres octs)) (sym (once_law (in_nanometres octs) ss w.0 f w.1)) w.2

@@ -6,15 +6,15 @@ use Rattle.std.proofs.lemmas.List.{append-nil}
 use Rattle.plane.specs.Plane.{Bounds, IsOct}
 use Rattle.octagon.proofs.Plain.{IsOct-IsSmall}
 use Rattle.plane.specs.Narrow.{IsNearZero}
-use Rattle.sheet_union.specs.Crossings.{is_between, is_on, met, on_rising, on_falling, on_slants, upright_rows, rising_rows, half_rows, crossing_rows}
+use Rattle.sheet_union.specs.Inner.Crossings.{is_within_twice, is_on_oct, met, on_rising, on_falling, on_slants, upright_rows, rising_rows, half_rows, crossing_rows}
 use Rattle.sheet_union.proofs.Plain.{read, twice, twice_is, double_less, plus_is, less_is, read_is, smaller}
 
 pub on_is : (b : Bounds) (x y x0 x1 y0 y1 s0 s1 d0 d1 : ℤ) (p q r t z : Bool) → IsOct b → IsNearZero (2 ^ 44) x → IsNearZero (2 ^ 44) y
     → x0 ≡ b.x0 → x1 ≡ b.x1 → y0 ≡ b.y0 → y1 ≡ b.y1 → s0 ≡ b.s0 → s1 ≡ b.s1 → d0 ≡ b.d0 → d1 ≡ b.d1
-    → p ≡ is_between (read x0) (read x) (read x1) → q ≡ is_between (read y0) (read y) (read y1)
-    → r ≡ is_between (read s0) (read (read x +ℤ read y)) (read s1) → t ≡ is_between (read d0) (read (read x -ℤ read y)) (read d1)
-    → z ≡ (p && (q && (r && t))) → z ≡ is_on b x y
-unfolding is_on
+    → p ≡ is_within_twice (read x0) (read x) (read x1) → q ≡ is_within_twice (read y0) (read y) (read y1)
+    → r ≡ is_within_twice (read s0) (read (read x +ℤ read y)) (read s1) → t ≡ is_within_twice (read d0) (read (read x -ℤ read y)) (read d1)
+    → z ≡ (p && (q && (r && t))) → z ≡ is_on_oct b x y
+unfolding is_on_oct
 on_is b x y x0 x1 y0 y1 s0 s1 d0 d1 p q r t z o h k a0 a1 b0 b1 c0 c1 e0 e1 f g i j e =
     let m = IsOct-IsSmall b o in
     rw (

@@ -7,7 +7,6 @@ pub mod Distinct
 pub mod Sorted
 pub mod Joined
 pub mod Ranges
-pub mod FromLeft
 pub mod Runs
 pub mod State
 pub mod Opening

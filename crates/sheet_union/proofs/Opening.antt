@@ -6,8 +6,8 @@ use Rattle.std.proofs.lemmas.Bool.{false≢true}
 use Rattle.std.proofs.lemmas.List.{append-nil}
 use Rattle.plane.specs.Plane.{Bounds, IsOct}
 use Rattle.octagon.proofs.Plain.{IsOct-IsSmall}
-use Rattle.covering.proofs.Counts.{less_true, less_false, most_true, most_false}
-use Rattle.sheet_union.specs.Sweep.{begun, waiting, reaching}
+use Rattle.plane.proofs.Counts.{less_true, less_false, most_true, most_false}
+use Rattle.sheet_union.specs.Inner.Sweep.{begun, waiting, reaching_below}
 use Rattle.sheet_union.proofs.Plain.{read, twice, twice_is}
 use Rattle.sheet_union.proofs.Walks.{rest_is, none_left}
 
@@ -69,17 +69,17 @@ reaches_test : (o : Bounds) (t y : ℤ) (b : Bool) → IsOct o → y ≡ o.y1 �
 reaches_test o t y b h e f = rw (e, twice_is o.y1 (IsOct-IsSmall o h).y1) at f
 
 pub kept_step : (o : Bounds) (bs : List Bounds) (i : ℕ) (t y : ℤ) (r0 r r' : List Bounds) → IsOct o → y ≡ o.y1 → int_le t (twice y) ≡ true → i < length bs → o ≡ get_or bs i o
-    → r' ≡ r ++ o ∷ [] → r ++ reaching t (drop i bs) ≡ r0 → r' ++ reaching t (drop (i + 1) bs) ≡ r0
-unfolding reaching
+    → r' ≡ r ++ o ∷ [] → r ++ reaching_below t (drop i bs) ≡ r0 → r' ++ reaching_below t (drop (i + 1) bs) ≡ r0
+unfolding reaching_below
 kept_step o bs i t y r0 r r' h e f l g k inv =
     let w = rw (rest_is o bs i l g, reaches_test o t y true h e f) at inv in
-    rw k (append_assoc r (o ∷ []) (reaching t (drop (i + 1) bs)) ∙ w)
+    rw k (append_assoc r (o ∷ []) (reaching_below t (drop (i + 1) bs)) ∙ w)
 
 pub left_step : (o : Bounds) (bs : List Bounds) (i : ℕ) (t y : ℤ) (r0 r : List Bounds) → IsOct o → y ≡ o.y1 → int_le t (twice y) ≡ false → i < length bs → o ≡ get_or bs i o
-    → r ++ reaching t (drop i bs) ≡ r0 → r ++ reaching t (drop (i + 1) bs) ≡ r0
-unfolding reaching
+    → r ++ reaching_below t (drop i bs) ≡ r0 → r ++ reaching_below t (drop (i + 1) bs) ≡ r0
+unfolding reaching_below
 left_step o bs i t y r0 r h e f l g inv = rw (rest_is o bs i l g, reaches_test o t y false h e f) at inv
 
-pub kept_end : (bs : List Bounds) (i : ℕ) (t : ℤ) (r : List Bounds) → FitsSigned w64 t → length bs ≤ i → r ++ reaching (read t) (drop i bs) ≡ reaching (read t) bs → r ≡ reaching t bs
-unfolding reaching
+pub kept_end : (bs : List Bounds) (i : ℕ) (t : ℤ) (r : List Bounds) → FitsSigned w64 t → length bs ≤ i → r ++ reaching_below (read t) (drop i bs) ≡ reaching_below (read t) bs → r ≡ reaching_below t bs
+unfolding reaching_below
 kept_end bs i t r f l inv = let w = rw (none_left bs i l) at inv in rw (to_z-of_z w64 t f) at (sym (append-nil r) ∙ w)

@@ -5,7 +5,7 @@ use Rattle.std.proofs.lemmas.Int.{ints, to_z-of_z}
 use Rattle.plane.specs.Plane.{Bounds, IsOct}
 use Rattle.plane.specs.Narrow.{IsNearZero}
 use Rattle.octagon.proofs.Plain.{IsOct-IsSmall}
-use Rattle.sheet_union.specs.Crossings.{is_between}
+use Rattle.sheet_union.specs.Inner.Crossings.{is_within_twice}
 
 -- a number as the code reads it, and twice a number
 abbrev pub read : ℤ → ℤ
@@ -21,12 +21,12 @@ pub twice_is : (y : ℤ) → IsNearZero (2 ^ 42) y → twice y ≡ pos 2 *ℤ y
 twice_is y h = omega (arith, ints)
 
 pub between_then : (low v high : ℤ) → IsNearZero (2 ^ 42) low → IsNearZero (2 ^ 42) high → FitsSigned w64 v
-    → int_le (twice low) (read v) ≡ true → int_le (read v) (twice high) ≡ is_between low v high
+    → int_le (twice low) (read v) ≡ true → int_le (read v) (twice high) ≡ is_within_twice low v high
 between_then low v high h k f l =
     let m : int_le (pos 2 *ℤ low) v ≡ true = rw (twice_is low h, to_z-of_z w64 v f) at l in
     rw (twice_is high k, to_z-of_z w64 v f, m) refl
 
-pub between_else : (low v high : ℤ) → IsNearZero (2 ^ 42) low → FitsSigned w64 v → int_le (twice low) (read v) ≡ false → false ≡ is_between low v high
+pub between_else : (low v high : ℤ) → IsNearZero (2 ^ 42) low → FitsSigned w64 v → int_le (twice low) (read v) ≡ false → false ≡ is_within_twice low v high
 between_else low v high h f l =
     let m : int_le (pos 2 *ℤ low) v ≡ false = rw (twice_is low h, to_z-of_z w64 v f) at l in
     rw m refl

@@ -3,7 +3,7 @@ use Rattle.std.proofs.Common.{◌≡◌, ◌∙◌, ◌^◌, arith, w64, to_z, o
 use Rattle.std.specs.Prelude.{ℤ, pos, ◌+ℤ◌, ◌-ℤ◌, ◌*ℤ◌, int_lt, Bool, if◌then◌else◌}
 use Rattle.std.proofs.lemmas.Int.{ints, to_z-of_z}
 use Rattle.plane.specs.Narrow.{IsNearZero}
-use Rattle.strips.specs.Runs.{greatest, least}
+use Rattle.strips.specs.Inner.Runs.{greatest, least}
 
 -- a test of two numbers as the code reads them
 pub plain : (a b : ℤ) (r : Bool) → FitsSigned w64 a → FitsSigned w64 b → int_lt (to_z w64 (of_z w64 a)) (to_z w64 (of_z w64 b)) ≡ r → int_lt a b ≡ r

@@ -7,9 +7,9 @@ use Rattle.std.proofs.lemmas.List.{append-nil}
 use Rattle.plane.specs.Plane.{Bounds, times}
 use Rattle.strips.specs.declared.Strip.{Strip}
 use Rattle.strips.specs.Strips.{in_nanometres}
-use Rattle.strips.specs.Runs.{run_at, runs_of}
-use Rattle.strips.specs.Merge.{merged}
-use Rattle.strips.specs.Sweep.{AreFromLeft, AreOpen}
+use Rattle.strips.specs.Inner.Runs.{run_at, runs_of}
+use Rattle.strips.specs.Inner.Merge.{merged}
+use Rattle.strips.specs.Inner.Sweep.{AreFromLeft, AreOpen}
 use Rattle.sheet_union.specs.Near.{IsSlabAdded}
 use Rattle.plane.specs.Narrow.{IsNearZero}
 use Rattle.sheet_union.proofs.Plain.{read, read_is}

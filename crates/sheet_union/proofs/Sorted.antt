@@ -8,10 +8,10 @@ use Rattle.std.specs.Ordering.{int_cmp, int_eq}
 use Rattle.std.proofs.lemmas.List.Filters.{dedup_is}
 use Rattle.plane.specs.Plane.{Bounds, IsOct}
 use Rattle.strips.specs.Strips.{in_nanometres}
-use Rattle.strips.specs.Sweep.{AreCutRows}
+use Rattle.strips.specs.Inner.Sweep.{AreCutRows}
 use Rattle.strips.proofs.Cuts.{cut_of, cut_at}
-use Rattle.sheet_union.specs.Crossings.{all_rows}
-use Rattle.sheet_union.specs.Rows.{AreFromTop}
+use Rattle.sheet_union.specs.Inner.Crossings.{all_rows}
+use Rattle.sheet_union.specs.Inner.Rows.{AreFromTop}
 use Rattle.sheet_union.proofs.CutRows.{found_cut, cut_found}
 use Rattle.sheet_union.proofs.Distinct.{down_of, kept, back}
 

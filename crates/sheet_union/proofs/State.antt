@@ -6,14 +6,14 @@ use Rattle.std.proofs.lemmas.Int.{ints, by_lt_z}
 use Rattle.std.proofs.lemmas.List.{append-nil}
 use Rattle.std.proofs.lemmas.List.Elements.{All-cons, All-nil}
 use Rattle.plane.specs.Plane.{Bounds, times}
-use Rattle.covering.proofs.Counts.{most_true, most_false}
+use Rattle.plane.proofs.Counts.{most_true, most_false}
 use Rattle.strips.specs.declared.Strip.{Strip}
 use Rattle.strips.specs.Strips.{in_nanometres}
-use Rattle.strips.specs.Runs.{Reaches}
-use Rattle.strips.specs.Sweep.{AreOpen, AreSheetStrips}
+use Rattle.strips.specs.Inner.Runs.{ReachesAcross}
+use Rattle.strips.specs.Inner.Sweep.{AreOpen, AreSheetStrips}
 use Rattle.sheet_union.specs.Near.{IsSlabAdded}
-use Rattle.sheet_union.specs.Rows.{AreFromTop}
-use Rattle.sheet_union.specs.Sweep.{begun, waiting, reaching}
+use Rattle.sheet_union.specs.Inner.Rows.{AreFromTop}
+use Rattle.sheet_union.specs.Inner.Sweep.{begun, waiting, reaching_below}
 use Rattle.sheet_union.proofs.Members.{IsOne, one_of, contains_of, one_left, one_right, one_cases, one_map, one_back}
 use Rattle.sheet_union.proofs.CutRows.{tail_from_top, below_first}
 
@@ -67,22 +67,22 @@ waiting_below t (c ∷ cs) b h =
       | inr j ↦ (let m = below_first c cs b h j in omega (arith, ints, l, m))
     ]))
 
-reaching_each : (u : ℤ) (bs : List Bounds) (b : Bounds) → IsOne (reaching u bs) b → IsOne bs b × (u ≤ℤ (pos 2 *ℤ b.y1))
-unfolding reaching IsOne
+reaching_each : (u : ℤ) (bs : List Bounds) (b : Bounds) → IsOne (reaching_below u bs) b → IsOne bs b × (u ≤ℤ (pos 2 *ℤ b.y1))
+unfolding reaching_below IsOne
 reaching_each u [] b = λ i. absurd i
 reaching_each u (c ∷ cs) b =
-    by_test {P = IsOne (reaching u (c ∷ cs)) b → IsOne (c ∷ cs) b × (u ≤ℤ (pos 2 *ℤ b.y1))} u (pos 2 *ℤ c.y1)
+    by_test {P = IsOne (reaching_below u (c ∷ cs)) b → IsOne (c ∷ cs) b × (u ≤ℤ (pos 2 *ℤ b.y1))} u (pos 2 *ℤ c.y1)
     (λ e l. rw e (λ i. elim i [
       | inl f ↦ (inl f, subst (λ (z : Bounds). u ≤ℤ (pos 2 *ℤ z.y1)) (sym f) l)
       | inr j ↦ (let w = reaching_each u cs b j in (inr w.0, w.1))
     ]))
     (λ e l. rw e (λ i. (let w = reaching_each u cs b i in (inr w.0, w.1))))
 
-reaching_or_done : (u : ℤ) (bs : List Bounds) (b : Bounds) → IsOne bs b → IsOne (reaching u bs) b ⊎ ((pos 2 *ℤ b.y1) <ℤ u)
-unfolding reaching IsOne
+reaching_or_done : (u : ℤ) (bs : List Bounds) (b : Bounds) → IsOne bs b → IsOne (reaching_below u bs) b ⊎ ((pos 2 *ℤ b.y1) <ℤ u)
+unfolding reaching_below IsOne
 reaching_or_done u [] b i = absurd i
 reaching_or_done u (c ∷ cs) b i =
-    by_test {P = IsOne (reaching u (c ∷ cs)) b ⊎ ((pos 2 *ℤ b.y1) <ℤ u)} u (pos 2 *ℤ c.y1)
+    by_test {P = IsOne (reaching_below u (c ∷ cs)) b ⊎ ((pos 2 *ℤ b.y1) <ℤ u)} u (pos 2 *ℤ c.y1)
     (λ e l. rw e (elim i [ inl f ↦ inl (inl f) | inr j ↦ elim (reaching_or_done u cs b j) [ inl k ↦ inl (inr k) | inr k ↦ inr k ] ]))
     (λ e l. rw e (elim i [ inl f ↦ inr (subst (λ (z : Bounds). (pos 2 *ℤ z.y1) <ℤ u) (sym f) l) | inr j ↦ reaching_or_done u cs b j ]))
 
@@ -98,7 +98,7 @@ unfolding IsOne
 first_state octs t h = record { sorted = h; each = λ b i. absurd i; wait = λ b i. i; all = λ b i. inl i }
 
 abbrev pub opened_at : ℤ → ℤ → List Bounds → List Bounds → List Bounds
-opened_at t u opened rest = reaching u (opened ++ begun t rest)
+opened_at t u opened rest = reaching_below u (opened ++ begun t rest)
 
 begun_in : (octs : List Bounds) (t : ℤ) (opened rest : List Bounds) (b : Bounds) → IsState octs t opened rest → IsOne (opened ++ begun t rest) b → IsOne octs b × ((pos 2 *ℤ b.y0) ≤ℤ t)
 begun_in octs t opened rest b s i =
@@ -128,20 +128,20 @@ all_map P (x ∷ xs) f = All-cons P (times 2 x) (in_nanometres xs) (f x (inl ref
 
 pub open_at : (octs : List Bounds) (t u : ℤ) (opened rest : List Bounds) → t <ℤ u → IsState octs t opened rest → AreOpen (in_nanometres octs) t u (in_nanometres (opened_at t u opened rest))
 open_at octs t u opened rest d s = record {
-  each = all_map (λ b. Contains (in_nanometres octs) b × Reaches b t u) (opened_at t u opened rest)
+  each = all_map (λ b. Contains (in_nanometres octs) b × ReachesAcross b t u) (opened_at t u opened rest)
       (λ b i. (let v = reaching_each u (opened ++ begun t rest) b i in let w = begun_in octs t opened rest b s v.0 in
       (contains_of (in_nanometres octs) (times 2 b) (one_map (times 2) octs b w.0), (w.1, v.1))));
   all = λ c i r. (
       let w = one_back (times 2) octs c (one_of (in_nanometres octs) c i) in
-      let q = subst (λ (z : Bounds). Reaches z t u) w.2 r in
+      let q = subst (λ (z : Bounds). ReachesAcross z t u) w.2 r in
       subst (Contains (in_nanometres (opened_at t u opened rest))) (sym w.2)
       (contains_of (in_nanometres (opened_at t u opened rest)) (times 2 w.0) (one_map (times 2) (opened_at t u opened rest) w.0 (found w.0 w.1 q))));
 }
   where
-    in_reach : (b : Bounds) → Reaches (times 2 b) t u → IsOne (opened ++ begun t rest) b → IsOne (opened_at t u opened rest) b
+    in_reach : (b : Bounds) → ReachesAcross (times 2 b) t u → IsOne (opened ++ begun t rest) b → IsOne (opened_at t u opened rest) b
     in_reach b q i = elim (reaching_or_done u (opened ++ begun t rest) b i) [ inl j ↦ j | inr l ↦ absurd (let m = q.1 in omega (arith, ints, l, m)) ]
 
-    found : (b : Bounds) → IsOne octs b → Reaches (times 2 b) t u → IsOne (opened_at t u opened rest) b
+    found : (b : Bounds) → IsOne octs b → ReachesAcross (times 2 b) t u → IsOne (opened_at t u opened rest) b
     found b i q =
         elim (s.all b i) [
           | inl j ↦ elim (begun_or_waiting t rest b j) [

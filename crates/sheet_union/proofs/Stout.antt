@@ -6,7 +6,7 @@ use Rattle.std.proofs.lemmas.Bool.{false≢true}
 use Rattle.plane.specs.Plane.{Bounds, IsOct}
 use Rattle.plane.specs.Narrow.{IsNearZero}
 use Rattle.octagon.proofs.Plain.{IsOct-IsSmall}
-use Rattle.covering.proofs.Counts.{less_true, less_false}
+use Rattle.plane.proofs.Counts.{less_true, less_false}
 use Rattle.strips.specs.Strips.{HasInside, IsStout}
 use Rattle.strips.proofs.Inside.{stout, inside}
 use Rattle.sheet_union.proofs.Plain.{read, read_is}

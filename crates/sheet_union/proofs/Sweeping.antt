@@ -7,9 +7,9 @@ use Rattle.plane.specs.Plane.{Bounds}
 use Rattle.plane.specs.Narrow.{IsNearZero}
 use Rattle.strips.specs.declared.Strip.{Strip}
 use Rattle.strips.specs.Strips.{in_nanometres}
-use Rattle.strips.specs.Sweep.{AreOpen, AreSheetStrips}
+use Rattle.strips.specs.Inner.Sweep.{AreOpen, AreSheetStrips}
 use Rattle.sheet_union.specs.Near.{IsSlabAdded}
-use Rattle.sheet_union.specs.Sweep.{begun, waiting, reaching}
+use Rattle.sheet_union.specs.Inner.Sweep.{begun, waiting, reaching_below}
 use Rattle.sheet_union.proofs.Plain.{read, read_is}
 use Rattle.sheet_union.proofs.State.{IsState, IsSoFar, next_state, open_at, so_far_next, so_far_end}
 
@@ -35,20 +35,20 @@ again k = omega arith
 
 pub state_step : (octs : List Bounds) (rows : List ℤ) (k : ℕ) (opened begun_ones seen_ones left rest rest' : List Bounds) (t u : ℤ)
     → 1 ≤ k → k < length rows → AllPairs (λ r q. r <ℤ q) rows → t ≡ top_at rows k → u ≡ bottom_at rows k
-    → begun_ones ≡ opened ++ begun t rest → seen_ones ≡ begun_ones → left ≡ reaching u seen_ones → rest' ≡ waiting t rest
+    → begun_ones ≡ opened ++ begun t rest → seen_ones ≡ begun_ones → left ≡ reaching_below u seen_ones → rest' ≡ waiting t rest
     → IsState octs (top_at rows k) opened rest → IsState octs (top_at rows (k + 1)) left rest'
 state_step octs rows k opened begun_ones seen_ones left rest rest' t u h l d e f a b g i s =
     let w = next_state octs (top_at rows k) (bottom_at rows k) opened rest (rows_down rows k h l d) s in
-    let j : left ≡ reaching (bottom_at rows k) (opened ++ begun (top_at rows k) rest) = rw (b, a, e, f) at g in
+    let j : left ≡ reaching_below (bottom_at rows k) (opened ++ begun (top_at rows k) rest) = rw (b, a, e, f) at g in
     let m : rest' ≡ waiting (top_at rows k) rest = rw e at i in
     rw (again k, j, m) w
 
 pub open_step : (octs : List Bounds) (rows : List ℤ) (k : ℕ) (opened begun_ones seen_ones left left' rest : List Bounds) (t u : ℤ)
     → 1 ≤ k → k < length rows → AllPairs (λ r q. r <ℤ q) rows → t ≡ top_at rows k → u ≡ bottom_at rows k
-    → begun_ones ≡ opened ++ begun t rest → seen_ones ≡ begun_ones → left ≡ reaching u seen_ones → left' ≡ left
+    → begun_ones ≡ opened ++ begun t rest → seen_ones ≡ begun_ones → left ≡ reaching_below u seen_ones → left' ≡ left
     → IsState octs (top_at rows k) opened rest → AreOpen (in_nanometres octs) (top_at rows k) (bottom_at rows k) (in_nanometres left')
 open_step octs rows k opened begun_ones seen_ones left left' rest t u h l d e f a b g i s =
-    let j : left ≡ reaching (bottom_at rows k) (opened ++ begun (top_at rows k) rest) = rw (b, a, e, f) at g in
+    let j : left ≡ reaching_below (bottom_at rows k) (opened ++ begun (top_at rows k) rest) = rw (b, a, e, f) at g in
     rw (i, j) (open_at octs (top_at rows k) (bottom_at rows k) opened rest (rows_down rows k h l d) s)
 
 pub strips_step : (os : List Bounds) (rows : List ℤ) (k : ℕ) (out new : List Strip) → 1 ≤ k → k < length rows

@@ -6,7 +6,7 @@ use Rattle.std.proofs.lemmas.Int.{to_z-of_z}
 use Rattle.std.proofs.lemmas.List.{append-nil, take_rest}
 use Rattle.plane.specs.Plane.{Bounds, IsOct}
 use Rattle.octagon.proofs.Plain.{IsOct-IsSmall}
-use Rattle.sheet_union.specs.Crossings.{half_rows, crossing_rows, later_rows, rows_of, all_rows}
+use Rattle.sheet_union.specs.Inner.Crossings.{half_rows, crossing_rows, later_rows, cut_rows_of, all_rows}
 use Rattle.sheet_union.proofs.Plain.{read, twice, twice_is}
 
 -- the rest of a list, with its first element known
@@ -48,8 +48,8 @@ later_end a bs i r0 r l inv = let w = rw (none_left bs i l) at inv in sym (appen
 -- ---- the rows of one
 pub one_is : (a : Bounds) (bs : List Bounds) (y0 y1 : ℤ) (r0 r1 r2 r3 r4 : List ℤ) → IsOct a → y0 ≡ a.y0 → y1 ≡ a.y1
     → r1 ≡ r0 ++ twice y0 ∷ [] → r2 ≡ r1 ++ twice y1 ∷ [] → r3 ≡ r2 ++ half_rows a a → r4 ≡ r3 ++ later_rows a bs
-    → r4 ≡ r0 ++ rows_of a bs
-unfolding rows_of
+    → r4 ≡ r0 ++ cut_rows_of a bs
+unfolding cut_rows_of
 one_is a bs y0 y1 r0 r1 r2 r3 r4 o e f h k m n =
     let z = IsOct-IsSmall a o in
     let p = pos 2 *ℤ a.y0 in
@@ -62,12 +62,12 @@ one_is a bs y0 y1 r0 r1 r2 r3 r4 o e f h k m n =
 
 -- ---- the rows of all
 pub all_step : (o : Bounds) (bs : List Bounds) (i : ℕ) (r0 r r' : List ℤ) → i < length bs → o ≡ get_or bs i o
-    → r' ≡ r ++ rows_of o (take (length bs - (i + 1)) (drop (i + 1) bs)) → r ++ all_rows (drop i bs) ≡ r0 → r' ++ all_rows (drop (i + 1) bs) ≡ r0
+    → r' ≡ r ++ cut_rows_of o (take (length bs - (i + 1)) (drop (i + 1) bs)) → r ++ all_rows (drop i bs) ≡ r0 → r' ++ all_rows (drop (i + 1) bs) ≡ r0
 unfolding all_rows
 all_step o bs i r0 r r' l e h inv =
-    let h' : r' ≡ r ++ rows_of o (drop (i + 1) bs) = rw (take_rest bs (i + 1)) at h in
+    let h' : r' ≡ r ++ cut_rows_of o (drop (i + 1) bs) = rw (take_rest bs (i + 1)) at h in
     let w = rw (rest_is o bs i l e) at inv in
-    rw h' (append_assoc r (rows_of o (drop (i + 1) bs)) (all_rows (drop (i + 1) bs)) ∙ w)
+    rw h' (append_assoc r (cut_rows_of o (drop (i + 1) bs)) (all_rows (drop (i + 1) bs)) ∙ w)
 
 pub all_end : (bs : List Bounds) (i : ℕ) (r0 r : List ℤ) → length bs ≤ i → r ++ all_rows (drop i bs) ≡ r0 → r ≡ r0
 unfolding all_rows

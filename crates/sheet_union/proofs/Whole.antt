@@ -12,12 +12,12 @@ use Rattle.plane.proofs.Times.{IsTight-times}
 use Rattle.plane.proofs.Points.{mul_swap}
 use Rattle.octagon.proofs.Plain.{IsOct-IsSmall}
 use Rattle.strips.specs.declared.Strip.{Strip}
-use Rattle.strips.specs.Strips.{Direction, Level, Upright, Rising, Falling, HasInside, IsPlate, IsCut, AreStrips, AreCovering, in_nanometres}
-use Rattle.strips.specs.Sweep.{AreCutRows, AreSheetStrips}
+use Rattle.strips.specs.Strips.{Direction, Level, Upright, Rising, Falling, HasInside, IsPlate, IsCutRow, AreStrips, AreCovering, in_nanometres}
+use Rattle.strips.specs.Inner.Sweep.{AreCutRows, AreSheetStrips}
 use Rattle.strips.proofs.Cuts.{IsCutAt, IsSideAt, cut_at}
 use Rattle.strips.proofs.Right.{sweep}
 use Rattle.strips.proofs.Same.{same_law}
-use Rattle.sheet_union.specs.Near.{IsNear, IsSheet}
+use Rattle.sheet_union.specs.Near.{IsNearStrip, IsSheet}
 use Rattle.sheet_union.proofs.Members.{IsOne, one_of, contains_of, one_map, one_back}
 
 -- ---- octagons with points inside, in nanometres
@@ -72,7 +72,7 @@ within_of b Upright x r h = h.0
 within_of b Rising x r h = h.0
 within_of b Falling x r h = h.0
 
-row_near : (octs : List Bounds) (r : ℤ) → All IsOct octs → IsCut (in_nanometres octs) r → IsNearZero (2 ^ 43) r
+row_near : (octs : List Bounds) (r : ℤ) → All IsOct octs → IsCutRow (in_nanometres octs) r → IsNearZero (2 ^ 43) r
 unfolding IsCutAt
 row_near octs r o c =
     let w = cut_at (in_nanometres octs) r c in
@@ -108,7 +108,7 @@ sheet_is octs sorted rows ss h p o c f =
     let v = same_law (in_nanometres sorted) (in_nanometres octs) ss (same_octs octs sorted p) w.0 in
     (v.0, v.1 w.1)
 
-pub sound_is : (os : List Bounds) (ss : List Strip) → AreStrips os ss → All (λ s. IsNear s) ss → IsSheet ss
+pub sound_is : (os : List Bounds) (ss : List Strip) → AreStrips os ss → All (λ s. IsNearStrip s) ss → IsSheet ss
 sound_is os ss h n = record { near = n; shapes = h.shapes; order = h.order }
 
 -- the same, with the lists as the code hands them on

@@ -6,7 +6,7 @@ use Rattle.strips.specs.declared.Strip.{Strip}
 use Rattle.strips.specs.Strips.{HasInside, AreStrips, AreCovering, in_nanometres}
 
 -- whatever strips are those of octagons with points strictly inside, they cover exactly the union
-abbrev pub CoverLaw : Type 0
-CoverLaw =
+abbrev pub StripsCoverLaw : Type 0
+StripsCoverLaw =
     (octs : List Bounds) (ss : List Strip) → All IsOct octs → All (λ b. HasInside b) octs → AreStrips (in_nanometres octs) ss
     → AreCovering (in_nanometres octs) ss

@@ -1,5 +1,3 @@
-pub mod Crossings
-pub mod Rows
 pub mod Near
-pub mod Sweep
 pub mod Laws
+pub mod Inner

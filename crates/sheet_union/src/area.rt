@@ -3,7 +3,7 @@ ghost use Rattle.std.specs.Prelude.{◌≡◌, ◌^◌, ◌≤◌, pos, ◌-ℤ�
 ghost use Rattle.plane.specs.Narrow.{IsNearZero};
 ghost use Rattle.strips.specs.Area.{strip_area2, area2_of};
 ghost use Rattle.strips.specs.Strips.{IsTrapezoid};
-ghost use Rattle.sheet_union.specs.Near.{IsNear, IsSheet};
+ghost use Rattle.sheet_union.specs.Near.{IsNearStrip, IsSheet};
 
 use strips::Strip;
 
@@ -20,7 +20,7 @@ fn distance(from: i64, to: i64) -> u64
 
 // Twice the area of one strip.
 fn strip_area2(strip: Strip) -> u128
-    requires near { IsNear strip }
+    requires near { IsNearStrip strip }
     requires shape { IsTrapezoid strip }
     ensures { pos result ≡ strip_area2 strip }
 {

@@ -1,7 +1,7 @@
 // The rows in which the sides of two octagons cross.
 ghost use Rattle.std.specs.Prelude.{◌≡◌, ◌^◌, ◌&&◌, ◌++◌, IfOk};
 ghost use Rattle.plane.specs.Narrow.{IsNearZero};
-ghost use Rattle.sheet_union.specs.Crossings.{is_between, is_on, met, on_rising, on_falling, on_slants, upright_rows, rising_rows, half_rows, crossing_rows};
+ghost use Rattle.sheet_union.specs.Inner.Crossings.{is_within_twice, is_on_oct, met, on_rising, on_falling, on_slants, upright_rows, rising_rows, half_rows, crossing_rows};
 
 use grid_num::Memory;
 use octagon::Oct;
@@ -10,7 +10,7 @@ use octagon::Oct;
 fn is_between(low: i64, value: i64, high: i64) -> bool
     requires low { IsNearZero (2 ^ 42) low }
     requires high { IsNearZero (2 ^ 42) high }
-    ensures { result ≡ is_between low value high }
+    ensures { result ≡ is_within_twice low value high }
 {
     2 * low <= value && value <= 2 * high
 }
@@ -26,7 +26,7 @@ pub fn all(x: bool, y: bool, s: bool, d: bool) -> bool
 fn is_on(oct: &Oct, x: i64, y: i64) -> bool
     requires x { IsNearZero (2 ^ 44) x }
     requires y { IsNearZero (2 ^ 44) y }
-    ensures { result ≡ is_on oct.now x y }
+    ensures { result ≡ is_on_oct oct.now x y }
 {
     all(
         is_between(oct.x0(), x, oct.x1()),
@@ -37,7 +37,7 @@ fn is_on(oct: &Oct, x: i64, y: i64) -> bool
 }
 
 // Adds the row of the place, if it is on both octagons.
-#[tactic(auto, unfolding(crate::specs::Crossings::met))]
+#[tactic(auto, unfolding(crate::specs::Inner::Crossings::met))]
 fn put_met(rows: &mut Vec<i64>, a: &Oct, b: &Oct, x: i64, y: i64) -> Result<(), Memory>
     requires x { IsNearZero (2 ^ 44) x }
     requires y { IsNearZero (2 ^ 44) y }
@@ -82,7 +82,7 @@ fn put_on_slants(rows: &mut Vec<i64>, a: &Oct, b: &Oct, d: i64, s: i64) -> Resul
 }
 
 // Adds the rows where an upright side of a, at x, crosses slanting sides of b.
-#[tactic(auto, unfolding(crate::specs::Crossings::upright_rows))]
+#[tactic(auto, unfolding(crate::specs::Inner::Crossings::upright_rows))]
 fn put_upright(rows: &mut Vec<i64>, a: &Oct, b: &Oct, x: i64) -> Result<(), Memory>
     requires { IsNearZero (2 ^ 42) x }
     ensures { IfOk result (λ _. rows.new.items ≡ rows.old.items ++ upright_rows a.now b.now x) }
@@ -95,7 +95,7 @@ fn put_upright(rows: &mut Vec<i64>, a: &Oct, b: &Oct, x: i64) -> Result<(), Memo
 }
 
 // Adds the rows where a rising side of a, at d, crosses falling sides of b.
-#[tactic(auto, unfolding(crate::specs::Crossings::rising_rows))]
+#[tactic(auto, unfolding(crate::specs::Inner::Crossings::rising_rows))]
 fn put_rising(rows: &mut Vec<i64>, a: &Oct, b: &Oct, d: i64) -> Result<(), Memory>
     requires { IsNearZero (2 ^ 42) d }
     ensures { IfOk result (λ _. rows.new.items ≡ rows.old.items ++ rising_rows a.now b.now d) }
@@ -106,7 +106,7 @@ fn put_rising(rows: &mut Vec<i64>, a: &Oct, b: &Oct, d: i64) -> Result<(), Memor
 }
 
 /// Adds the rows where upright and rising sides of a cross sides of b of the directions after theirs.
-#[tactic(auto, unfolding(crate::specs::Crossings::half_rows))]
+#[tactic(auto, unfolding(crate::specs::Inner::Crossings::half_rows))]
 pub fn put_half(rows: &mut Vec<i64>, a: &Oct, b: &Oct) -> Result<(), Memory>
     ensures { IfOk result (λ _. rows.new.items ≡ rows.old.items ++ half_rows a.now b.now) }
 {
@@ -118,7 +118,7 @@ pub fn put_half(rows: &mut Vec<i64>, a: &Oct, b: &Oct) -> Result<(), Memory>
 }
 
 /// Adds the rows of all crossings of two octagons.
-#[tactic(auto, unfolding(crate::specs::Crossings::crossing_rows))]
+#[tactic(auto, unfolding(crate::specs::Inner::Crossings::crossing_rows))]
 pub fn put_crossings(rows: &mut Vec<i64>, a: &Oct, b: &Oct) -> Result<(), Memory>
     ensures { IfOk result (λ _. rows.new.items ≡ rows.old.items ++ crossing_rows a.now b.now) }
 {

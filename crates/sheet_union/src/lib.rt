@@ -6,7 +6,7 @@
 ghost use Rattle.std.specs.Prelude.{◌≡◌, ◌↔◌, pos, IfOk, IsTrue};
 ghost use Rattle.std.specs.List.{All};
 ghost use Rattle.strips.specs.Area.{area2_of};
-ghost use Rattle.sheet_union.specs.Laws.{CoverLaw};
+ghost use Rattle.sheet_union.specs.Laws.{StripsCoverLaw};
 ghost use Rattle.sheet_union.specs.Near.{IsSheet};
 ghost use Rattle.strips.specs.Strips.{HasInside, AreStrips, AreCovering, in_nanometres};
 
@@ -16,8 +16,6 @@ mod merge;
 mod rows;
 mod run;
 mod sweep;
-#[cfg(test)]
-mod tests;
 
 use crate::area::area2_of;
 use crate::crossing::all;
@@ -43,7 +41,7 @@ pub fn has_inside(oct: &Oct) -> bool
 
 /// Whatever strips are those of octagons with points strictly inside, they cover exactly the union.
 pub fn cover_law()
-    ensures { CoverLaw }
+    ensures { StripsCoverLaw }
 {}
 
 /// The union of octagons. Contracts see it as the list of its strips.

@@ -1,13 +1,11 @@
 // The runs of one slab, joined where they touch or overlap.
-ghost use Rattle.std.specs.Prelude.{◌≡◌, ◌^◌, ◌++◌, List, ◌+ℤ◌, IfOk, int_lt};
+ghost use Rattle.std.specs.Prelude.{◌≡◌, ◌^◌, ◌++◌, ◌+ℤ◌, IfOk, int_lt};
 ghost use Rattle.std.specs.List.{All};
 ghost use Rattle.std.specs.List.Sorted.{IsPermutation};
-ghost use Rattle.plane.specs.Plane.{Bounds};
 ghost use Rattle.plane.specs.Narrow.{IsNearZero};
-ghost use Rattle.strips.specs.Strips.{in_nanometres};
-ghost use Rattle.strips.specs.Merge.{joined, merged};
-ghost use Rattle.strips.specs.Sweep.{AreFromLeft, AreOpen};
-ghost use Rattle.sheet_union.specs.Near.{IsNear, IsSlabAdded};
+ghost use Rattle.strips.specs.Inner.Merge.{joined, merged};
+ghost use Rattle.strips.specs.Inner.Sweep.{AreFromLeft};
+ghost use Rattle.sheet_union.specs.Near.{IsNearStrip, AddsSlab, StayNear};
 
 use crate::run::runs_of;
 use grid_num::Memory;
@@ -28,10 +26,10 @@ fn is_less(a: i64, b: i64, c: i64, d: i64) -> bool
 
 // The run a with the right side of b, where that is further.
 fn join(a: Strip, b: Strip) -> Strip
-    requires a { IsNear a }
-    requires b { IsNear b }
+    requires a { IsNearStrip a }
+    requires b { IsNearStrip b }
     ensures value { result ≡ joined a b }
-    ensures near { IsNear result }
+    ensures near { IsNearStrip result }
 {
     if is_less(a.right, a.right_end, b.right, b.right_end) {
         Strip {
@@ -49,9 +47,9 @@ fn join(a: Strip, b: Strip) -> Strip
 
 // Adds the runs of one slab, which are listed from left to right, joined where there is no gap between them.
 fn put_merged(out: &mut Vec<Strip>, runs: &[Strip]) -> Result<(), Memory>
-    requires { All (λ s. IsNear s) runs.now }
+    requires { All (λ s. IsNearStrip s) runs.now }
     ensures strips { IfOk result (λ _. out.new.items ≡ out.old.items ++ merged runs.now) }
-    ensures near { IfOk result (λ _. All (λ s. IsNear s) out.old.items → All (λ s. IsNear s) out.new.items) }
+    ensures near { IfOk result (λ _. StayNear out.old.items out.new.items) }
 {
     if runs.is_empty() {
         return Ok(());
@@ -89,8 +87,8 @@ pub fn put_slab(
 ) -> Result<(), Memory>
     requires top { IsNearZero (2 ^ 43) top }
     requires bottom { IsNearZero (2 ^ 43) bottom }
-    ensures slab { IfOk result (λ _. (os : List Bounds) → AreOpen os top bottom (in_nanometres octs.now) → IsSlabAdded os top bottom out.old.items out.new.items) }
-    ensures near { IfOk result (λ _. All (λ s. IsNear s) out.old.items → All (λ s. IsNear s) out.new.items) }
+    ensures slab { IfOk result (λ _. AddsSlab octs.now top bottom out.old.items out.new.items) }
+    ensures near { IfOk result (λ _. StayNear out.old.items out.new.items) }
 {
     let runs = from_left(runs_of(alloc, octs, top, bottom)?)?;
     put_merged(out, &runs)?;

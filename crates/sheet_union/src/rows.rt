@@ -3,9 +3,9 @@ ghost use Rattle.std.specs.Prelude.{◌≡◌, ◌++◌, ◌<◌, ◌+◌, IfOk,
 ghost use Rattle.std.specs.List.{All};
 ghost use Rattle.plane.specs.Plane.{IsOct};
 ghost use Rattle.strips.specs.Strips.{in_nanometres};
-ghost use Rattle.strips.specs.Sweep.{AreCutRows};
-ghost use Rattle.sheet_union.specs.Crossings.{later_rows, rows_of, all_rows};
-ghost use Rattle.sheet_union.specs.Rows.{AreFromTop};
+ghost use Rattle.strips.specs.Inner.Sweep.{AreCutRows};
+ghost use Rattle.sheet_union.specs.Inner.Crossings.{later_rows, cut_rows_of, all_rows};
+ghost use Rattle.sheet_union.specs.Inner.Rows.{AreFromTop};
 
 use crate::crossing::{put_crossings, put_half};
 use grid_num::Memory;
@@ -26,9 +26,9 @@ fn put_later(rows: &mut Vec<i64>, oct: &Oct, later: &[Oct]) -> Result<(), Memory
 }
 
 // Adds the rows of the octagon's corners, and of its crossings with later ones.
-#[tactic(auto, unfolding(crate::specs::Crossings::rows_of))]
+#[tactic(auto, unfolding(crate::specs::Inner::Crossings::cut_rows_of))]
 fn put_rows_of(rows: &mut Vec<i64>, oct: &Oct, later: &[Oct]) -> Result<(), Memory>
-    ensures rows { IfOk result (λ _. rows.new.items ≡ rows.old.items ++ rows_of oct.now later.now) }
+    ensures rows { IfOk result (λ _. rows.new.items ≡ rows.old.items ++ cut_rows_of oct.now later.now) }
     ensures oct { IfOk result (λ _. IsOct oct.now) }
 {
     rows.push(2 * oct.y0())?;

@@ -4,8 +4,8 @@ ghost use Rattle.std.specs.List.{All};
 ghost use Rattle.plane.specs.Plane.{times};
 ghost use Rattle.plane.specs.Narrow.{IsNearZero};
 ghost use Rattle.strips.specs.Strips.{in_nanometres};
-ghost use Rattle.strips.specs.Runs.{greatest, least, left_at, right_at, run_at, runs_of};
-ghost use Rattle.sheet_union.specs.Near.{IsNear};
+ghost use Rattle.strips.specs.Inner.Runs.{greatest, least, left_at, right_at, run_at, runs_of};
+ghost use Rattle.sheet_union.specs.Near.{IsNearStrip};
 
 use grid_num::Memory;
 use octagon::Oct;
@@ -65,7 +65,7 @@ fn run_of(oct: &Oct, top: i64, bottom: i64) -> Strip
     requires top { IsNearZero (2 ^ 43) top }
     requires bottom { IsNearZero (2 ^ 43) bottom }
     ensures value { result ≡ run_at (times 2 oct.now) top bottom }
-    ensures near { IsNear result }
+    ensures near { IsNearStrip result }
 {
     Strip {
         top,
@@ -82,7 +82,7 @@ pub fn runs_of(alloc: Global, octs: &[Oct], top: i64, bottom: i64) -> Result<Vec
     requires top { IsNearZero (2 ^ 43) top }
     requires bottom { IsNearZero (2 ^ 43) bottom }
     ensures value { IfOk result (λ v. v.items ≡ runs_of (in_nanometres octs.now) top bottom) }
-    ensures near { IfOk result (λ v. All (λ s. IsNear s) v.items) }
+    ensures near { IfOk result (λ v. All (λ s. IsNearStrip s) v.items) }
 {
     let mut out = Vec::new(alloc);
     'each: for oct in octs {

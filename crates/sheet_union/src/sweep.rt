@@ -4,10 +4,10 @@ ghost use Rattle.std.specs.List.{All};
 ghost use Rattle.std.specs.List.Sorted.{IsPermutation};
 ghost use Rattle.plane.specs.Narrow.{IsNearZero};
 ghost use Rattle.strips.specs.Strips.{in_nanometres};
-ghost use Rattle.strips.specs.Sweep.{AreCutRows, AreSheetStrips};
-ghost use Rattle.sheet_union.specs.Near.{IsNear};
-ghost use Rattle.sheet_union.specs.Rows.{AreFromTop};
-ghost use Rattle.sheet_union.specs.Sweep.{begun, waiting, reaching};
+ghost use Rattle.strips.specs.Inner.Sweep.{AreCutRows, AreSheetStrips};
+ghost use Rattle.sheet_union.specs.Near.{IsNearStrip};
+ghost use Rattle.sheet_union.specs.Inner.Rows.{AreFromTop};
+ghost use Rattle.sheet_union.specs.Inner.Sweep.{begun, waiting, reaching_below};
 
 use crate::merge::put_slab;
 use grid_num::Memory;
@@ -46,7 +46,7 @@ fn open_begun(opened: &mut Vec<Oct>, octs: &[Oct], next: usize, row: i64) -> Res
 
 // The octagons that end in the row or below it.
 fn still_open(alloc: Global, octs: &[Oct], row: i64) -> Result<Vec<Oct>, Memory>
-    ensures { IfOk result (λ v. v.items ≡ reaching row octs.now) }
+    ensures { IfOk result (λ v. v.items ≡ reaching_below row octs.now) }
 {
     let mut open = Vec::new(alloc);
     'each: for oct in octs {
@@ -63,7 +63,7 @@ pub fn swept(alloc: Global, octs: &[Oct], rows: &[i64]) -> Result<Vec<Strip>, Me
     requires rows { AreCutRows (in_nanometres octs.now) rows.now }
     requires near { All (λ r. IsNearZero (2 ^ 43) r) rows.now }
     ensures strips { IfOk result (λ v. AreSheetStrips (in_nanometres octs.now) rows.now v.items) }
-    ensures near { IfOk result (λ v. All (λ s. IsNear s) v.items) }
+    ensures near { IfOk result (λ v. All (λ s. IsNearStrip s) v.items) }
 {
     let mut strips = Vec::new(alloc);
     let mut open = Vec::new(alloc);

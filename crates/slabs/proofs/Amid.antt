@@ -3,11 +3,11 @@ use Rattle.std.proofs.Common.{◌≡◌, ℕ, ◌⊎◌, inl, inr, arith}
 use Rattle.std.specs.Prelude.{ℤ, pos, ◌+ℤ◌, ◌-ℤ◌, ◌*ℤ◌, ◌≤ℤ◌, ◌<ℤ◌}
 use Rattle.std.proofs.lemmas.Int.{ints}
 use Rattle.plane.specs.Plane.{PlanePoint, Bounds, Within, In}
-use Rattle.plane.proofs.Times.{mul_add, mul_sub, mul_le}
-use Rattle.covering.specs.Covering.{Edge}
-use Rattle.covering.proofs.On.{at}
+use Rattle.grid_num.proofs.Products.{mul_add, mul_sub, mul_le}
+use Rattle.plane.specs.Covering.{Edge}
+use Rattle.plane.proofs.On.{at}
 use Rattle.slabs.specs.Slabs.{IsAt, IsFramed, IsAmid}
-use Rattle.slabs.specs.Cutting.{IsFourHull, AmidLaw}
+use Rattle.slabs.specs.Inner.Cutting.{IsFourHull, AmidLaw}
 use Rattle.slabs.proofs.At.{somewhere}
 
 -- ---- bounds with one changed

@@ -3,10 +3,10 @@ use Rattle.std.proofs.Common.{◌≡◌, refl, sym, ◌∙◌, ℕ, ◌⊎◌, i
 use Rattle.std.specs.Prelude.{ℤ, pos, neg_ℤ, ◌+ℤ◌, ◌-ℤ◌, ◌*ℤ◌, ◌≤ℤ◌, ◌<ℤ◌}
 use Rattle.std.proofs.lemmas.Int.{ints}
 use Rattle.plane.specs.Plane.{PlanePoint}
-use Rattle.plane.proofs.Times.{mul_add, mul_sub, mul_le, mul_lt}
-use Rattle.covering.specs.Covering.{Edge, IsOn, Between, crossing, down_crossing}
-use Rattle.covering.proofs.Counts.{Counts, none_up, upright, rise, fall}
-use Rattle.covering.proofs.On.{at, on_upright, upright_on, on_rise, rise_on, on_fall, fall_on}
+use Rattle.grid_num.proofs.Products.{mul_add, mul_sub, mul_le, mul_lt}
+use Rattle.plane.specs.Covering.{Edge, IsOn, Between, crossing, down_crossing}
+use Rattle.plane.proofs.Counts.{Counts, none_up, upright, rise, fall}
+use Rattle.plane.proofs.On.{at, on_upright, upright_on, on_rise, rise_on, on_fall, fall_on}
 use Rattle.slabs.specs.Slabs.{IsAt, IsInLine, IsSteep}
 
 -- from the top row t, where the cut is at u, to the bottom row b, where it is at v, it passes row y at z

@@ -5,17 +5,17 @@ use Rattle.std.specs.List.{All}
 use Rattle.std.proofs.lemmas.Int.{ints, by_lt_z}
 use Rattle.std.proofs.lemmas.List.Sums.{sum_by-cons, sum_by-append}
 use Rattle.plane.specs.Plane.{PlanePoint, grid_point}
-use Rattle.plane.proofs.Times.{mul_lt}
+use Rattle.grid_num.proofs.Products.{mul_lt}
 use Rattle.grid_num.specs.declared.Point.{Point}
-use Rattle.covering.specs.Covering.{Edge, IsOn, crossing, edges_to, edges_of}
-use Rattle.covering.specs.Edges.{turned, IsOctilinear, AreOctilinear}
-use Rattle.covering.specs.Ends.{crossing_below}
-use Rattle.covering.proofs.Counts.{Counts, most_true, most_false, none_up}
-use Rattle.covering.proofs.On.{at}
-use Rattle.covering.proofs.Laws.{crossing_turned}
-use Rattle.covering.proofs.Rows.{ends_law}
-use Rattle.covering.proofs.Lists.{any_left, any_right, any_parts}
-use Rattle.slabs.specs.Slabs.{IsLeftOf, IsSteep, RowsLaw, TogetherLaw, ChainLaw}
+use Rattle.plane.specs.Covering.{Edge, IsOn, crossing, edges_to, edges_of}
+use Rattle.plane.specs.Edges.{turned_back, IsOctilinear, AreOctilinear}
+use Rattle.plane.specs.Ends.{crossing_below}
+use Rattle.plane.proofs.Counts.{Counts, most_true, most_false, none_up}
+use Rattle.plane.proofs.On.{at}
+use Rattle.plane.proofs.CoverLaws.{crossing_turned}
+use Rattle.plane.proofs.Rows.{ends_law}
+use Rattle.plane.proofs.Lists.{any_left, any_right, any_parts}
+use Rattle.slabs.specs.Slabs.{IsLeftOf, IsSteep, MoreRowsLaw, ClosedTogetherLaw, ChainLaw}
 use Rattle.slabs.proofs.At.{Passes, passes, somewhere, crosses}
 use Rattle.slabs.proofs.Order.{all_head, all_tail}
 
@@ -93,17 +93,17 @@ even_down e p o l d =
     (λ g h. left_at (pos k *ℤ e.start.y) (pos k *ℤ e.finish.y) (pos k *ℤ e.start.x) (pos k *ℤ e.finish.x) p.y z.0 p.x l.start l.finish g h (passes e k p.y z.0 z.1))
     (crosses e p z.0 d z.1) (above_is p e.start) (above_is p e.finish)
 
-pub turned_octilinear : (e : Edge) → IsOctilinear e → IsOctilinear (turned e)
-unfolding IsOctilinear turned
+pub turned_octilinear : (e : Edge) → IsOctilinear e → IsOctilinear (turned_back e)
+unfolding IsOctilinear turned_back
 turned_octilinear e (inl h) = inl (sym h)
 turned_octilinear e (inr (inl h)) = inr (inl (sym h))
 turned_octilinear e (inr (inr (inl h))) = inr (inr (inl (omega (arith, ints))))
 turned_octilinear e (inr (inr (inr h))) = inr (inr (inr (omega (arith, ints))))
 
 even_up : (e : Edge) (p : PlanePoint) → IsOctilinear e → IsLeftOf p e → e.finish.y <ℤ e.start.y → (crossing p e + above p e.start + above p e.finish) % 2 ≡ 0
-unfolding turned
+unfolding turned_back
 even_up e p o l d =
-    let h = even_down (turned e) p (turned_octilinear e o) (record { start = l.finish; finish = l.start }) d in
+    let h = even_down (turned_back e) p (turned_octilinear e o) (record { start = l.finish; finish = l.start }) d in
     let t = crossing_turned p e in
     omega (arith, h, t)
 
@@ -165,7 +165,7 @@ chain_law rows cs o apart = record {
 }
 
 -- ---- more rows, and two lists together
-pub rows_law : RowsLaw
+pub rows_law : MoreRowsLaw
 rows_law rows more es sub closed = record {
   octilinear = closed.octilinear;
   apart = λ e f p i j oe of off. closed.apart e f p i j oe of (λ z w h. off z (sub z w) h);
@@ -190,7 +190,7 @@ all_right : {X : Type 0} (P : X → Type 0) (xs ys : List X) → All P (xs ++ ys
 all_right P [] ys a = a
 all_right P (x ∷ xs) ys a = all_right P xs ys (all_tail P x (xs ++ ys) a)
 
-pub together_law : TogetherLaw
+pub together_law : ClosedTogetherLaw
 together_law rows es fs a b cross = record {
   octilinear = octilinear_append es fs a.octilinear b.octilinear;
   apart = λ e f p i j oe of off. elim (any_parts (λ x. x ≡ e) es fs i) [

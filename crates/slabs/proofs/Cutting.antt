@@ -7,14 +7,14 @@ use Rattle.std.proofs.lemmas.List.Sums.{sum_by-cons, sum_by-append}
 use Rattle.std.proofs.lemmas.List.Elements.{All-push}
 use Rattle.plane.specs.Plane.{PlanePoint}
 use Rattle.grid_num.specs.declared.Point.{Point}
-use Rattle.covering.specs.Covering.{Edge, IsOn, Between, crossing}
-use Rattle.covering.specs.Edges.{turned, IsOctilinear, IsOnWay}
-use Rattle.covering.specs.Ends.{crossing_below}
-use Rattle.covering.proofs.Laws.{crossing_turned, on_turned}
-use Rattle.covering.proofs.Split.{split_crossing, split_on}
-use Rattle.covering.proofs.Lists.{any_none, any_head, any_cases, any_left, any_right, any_parts}
-use Rattle.slabs.specs.Slabs.{IsOneOf, IsAt, IsInLine, IsCut, IsOnLevel, AreCuts}
-use Rattle.slabs.specs.Cutting.{BeginLaw, StepLaw, EndLaw, TurnedCutsLaw, MoreCutsLaw, LevelCutsLaw}
+use Rattle.plane.specs.Covering.{Edge, IsOn, Between, crossing}
+use Rattle.plane.specs.Edges.{turned_back, IsOctilinear, IsOnWay}
+use Rattle.plane.specs.Ends.{crossing_below}
+use Rattle.plane.proofs.CoverLaws.{crossing_turned, on_turned}
+use Rattle.plane.proofs.Split.{split_crossing, split_on}
+use Rattle.plane.proofs.Lists.{any_none, any_head, any_cases, any_left, any_right, any_parts}
+use Rattle.slabs.specs.Slabs.{IsAmong, IsAt, IsInLine, IsCutOfEdge, IsOnLevel, AreCuts}
+use Rattle.slabs.specs.Inner.Cutting.{BeginLaw, StepLaw, EndLaw, TurnedCutsLaw, MoreCutsLaw, LevelCutsLaw}
 use Rattle.slabs.proofs.Below.{split_below, below_turned, level_below}
 use Rattle.slabs.proofs.Closed.{level_none}
 use Rattle.slabs.proofs.Order.{IsCutOf}
@@ -32,7 +32,7 @@ same_at [] k d h = absurd (omega (arith, h))
 same_at (x ∷ xs) zero d h = refl
 same_at (x ∷ xs) (suc k) d h = same_at xs k d (omega (arith, h))
 
-pub one_is : {X : Type 0} (xs : List X) → All (λ x. IsOneOf xs x) xs
+pub one_is : {X : Type 0} (xs : List X) → All (λ x. IsAmong xs x) xs
 one_is xs = λ k d h. (k, get_or xs k d, h, same_at xs k d h, refl)
 
 pub begin_law : BeginLaw
@@ -84,10 +84,10 @@ step_law rows e r cs ds m rest l n row next w =
     let lines = line_middle e r m part.line part.down w in
     let way = on_way e r m part.line l n w in
     let here = between_more e.start.y e.finish.y r.start.y r.finish.y m.y part.from part.to (omega (arith, ints, l)) (omega (arith, ints, n)) in
-    let cut : IsCut rows e c = record { down = l; line = lines.0; from = part.from; to = here; top = part.top; bottom = row; next = next } in
+    let cut : IsCutOfEdge rows e c = record { down = l; line = lines.0; from = part.from; to = here; top = part.top; bottom = row; next = next } in
     record {
       part = record { down = n; line = lines.1; from = here; to = part.to; top = row; bottom = part.bottom };
-      each = All-push (λ d. IsOneOf cs d ⊎ IsCut rows e d) ds c rest.each (inr cut);
+      each = All-push (λ d. IsAmong cs d ⊎ IsCutOfEdge rows e d) ds c rest.each (inr cut);
       count = λ p. (let a = rest.count p in let b = pushed_sum (crossing p) ds c in let s = split_crossing r.start m r.finish p way in omega (arith, a, b, s));
       below = λ p. (let a = rest.below p in let b = pushed_sum (crossing_below p) ds c in let s = split_below r.start m r.finish p way in omega (arith, a, b, s));
       kept = λ p a. any_left (λ d. IsOn d p) ds (c ∷ []) (rest.kept p a);
@@ -100,9 +100,9 @@ step_law rows e r cs ds m rest l n row next w =
 pub end_law : EndLaw
 end_law rows e r cs ds rest next =
     let part = rest.part in
-    let cut : IsCut rows e r = record { down = part.down; line = part.line; from = part.from; to = part.to; top = part.top; bottom = part.bottom; next = next } in
+    let cut : IsCutOfEdge rows e r = record { down = part.down; line = part.line; from = part.from; to = part.to; top = part.top; bottom = part.bottom; next = next } in
     record {
-      each = All-push (λ d. IsOneOf cs d ⊎ IsCut rows e d) ds r rest.each (inr cut);
+      each = All-push (λ d. IsAmong cs d ⊎ IsCutOfEdge rows e d) ds r rest.each (inr cut);
       count = λ p. (let a = rest.count p in let b = pushed_sum (crossing p) ds r in omega (arith, a, b));
       below = λ p. (let a = rest.below p in let b = pushed_sum (crossing_below p) ds r in omega (arith, a, b));
       kept = λ p a. any_left (λ d. IsOn d p) ds (r ∷ []) (rest.kept p a);
@@ -114,14 +114,14 @@ swap : (a b z : ℤ) → Between a b z → Between b a z
 swap a b z (inl h) = inr h
 swap a b z (inr h) = inl h
 
-line_turned : (e c : Edge) → IsInLine (turned e) c → IsInLine e c
-unfolding IsInLine turned
+line_turned : (e c : Edge) → IsInLine (turned_back e) c → IsInLine e c
+unfolding IsInLine turned_back
 line_turned e c (inl a) = inl (omega (arith, ints, a), omega (arith, ints, a), omega (arith, ints, a))
 line_turned e c (inr (inl a)) = inr (inl (omega (arith, ints, a), omega (arith, ints, a), omega (arith, ints, a)))
 line_turned e c (inr (inr a)) = inr (inr (omega (arith, ints, a), omega (arith, ints, a), omega (arith, ints, a)))
 
-cut_turned : (rows : List ℤ) (e c : Edge) → IsCut rows (turned e) c → IsCut rows e c
-unfolding turned
+cut_turned : (rows : List ℤ) (e c : Edge) → IsCutOfEdge rows (turned_back e) c → IsCutOfEdge rows e c
+unfolding turned_back
 cut_turned rows e c a = record {
   down = a.down;
   line = line_turned e c a.line;
@@ -145,10 +145,10 @@ turned_cuts_law rows e cs ds o a = record {
 from_more : (rows : List ℤ) (es : List Edge) (e d : Edge) → IsCutOf rows es d → IsCutOf rows (es ++ e ∷ []) d
 from_more rows es e d a = (a.0, any_left (λ x. x ≡ a.0) es (e ∷ []) a.1, a.2)
 
-from_one : (rows : List ℤ) (es : List Edge) (e d : Edge) → IsCut rows e d → IsCutOf rows (es ++ e ∷ []) d
+from_one : (rows : List ℤ) (es : List Edge) (e d : Edge) → IsCutOfEdge rows e d → IsCutOf rows (es ++ e ∷ []) d
 from_one rows es e d c = (e, any_right (λ x. x ≡ e) es (e ∷ []) (any_head (λ x. x ≡ e) e [] refl), c)
 
-pick : {X : Type 0} (P : X → Type 0) (xs : List X) (x : X) → All P xs → IsOneOf xs x → P x
+pick : {X : Type 0} (P : X → Type 0) (xs : List X) (x : X) → All P xs → IsAmong xs x → P x
 pick P xs x all a = subst P a.4 (subst P a.3 (all a.0 a.1 a.2))
 
 level_more : (es : List Edge) (e : Edge) (p : PlanePoint) → IsOnLevel es p → IsOnLevel (es ++ e ∷ []) p

@@ -3,13 +3,13 @@ use Rattle.std.proofs.Common.{◌≡◌, refl, sym, ◌∙◌, subst, ◌⊎◌,
 use Rattle.std.specs.Prelude.{ℤ, pos, ◌*ℤ◌, ◌<ℤ◌}
 use Rattle.std.proofs.lemmas.Int.{ints}
 use Rattle.plane.specs.Plane.{PlanePoint, StrictlyWithin, box_of}
-use Rattle.plane.proofs.Times.{mul_lt}
-use Rattle.covering.specs.Covering.{Edge, IsOn, edges_of}
-use Rattle.covering.specs.Edges.{IsOctilinear, AreOctilinear}
-use Rattle.covering.specs.Corners.{box_corners}
-use Rattle.covering.proofs.On.{on_level, on_upright}
-use Rattle.covering.proofs.Lists.{any_none, any_cases}
-use Rattle.slabs.specs.Slabs.{IsOneOf, IsOffRows}
+use Rattle.grid_num.proofs.Products.{mul_lt}
+use Rattle.plane.specs.Covering.{Edge, IsOn, edges_of}
+use Rattle.plane.specs.Edges.{IsOctilinear, AreOctilinear}
+use Rattle.plane.specs.Corners.{box_corners}
+use Rattle.plane.proofs.On.{on_level, on_upright}
+use Rattle.plane.proofs.Lists.{any_none, any_cases}
+use Rattle.slabs.specs.Slabs.{IsAmong, IsOffRows}
 use Rattle.slabs.specs.Outside.{FramedLaw}
 use Rattle.slabs.proofs.Order.{one_of}
 use Rattle.slabs.proofs.Closed.{chain_law, together_law}
@@ -39,7 +39,7 @@ module _ (x0 x1 y0 y1 : ℤ) where
   unfolding AreOctilinear IsOctilinear
   rim_octilinear = (inl refl, (inr (inl refl), (inl refl, (inr (inl refl), tt))))
 
-  rim_cases : (e : Edge) → IsOneOf Rim e → (top ≡ e) ⊎ ((right ≡ e) ⊎ ((bottom ≡ e) ⊎ (left ≡ e)))
+  rim_cases : (e : Edge) → IsAmong Rim e → (top ≡ e) ⊎ ((right ≡ e) ⊎ ((bottom ≡ e) ⊎ (left ≡ e)))
   rim_cases e i =
       elim (any_cases (λ x. x ≡ e) top (right ∷ bottom ∷ left ∷ []) i) [
         | inl h ↦ inl h
@@ -53,7 +53,7 @@ module _ (x0 x1 y0 y1 : ℤ) where
       ]
 
   -- off the rows, only the two upright sides have points
-  upright_side : (rows : List ℤ) (e : Edge) (p : PlanePoint) → IsOneOf rows y0 → IsOneOf rows y1 → IsOneOf Rim e → IsOn e p → IsOffRows rows p
+  upright_side : (rows : List ℤ) (e : Edge) (p : PlanePoint) → IsAmong rows y0 → IsAmong rows y1 → IsAmong Rim e → IsOn e p → IsOffRows rows p
       → ((right ≡ e) × (p.x ≡ pos p.scale *ℤ x1)) ⊎ ((left ≡ e) × (p.x ≡ pos p.scale *ℤ x0))
   upright_side rows e p r0 r1 i o off =
       elim (rim_cases e i) [
@@ -67,7 +67,7 @@ module _ (x0 x1 y0 y1 : ℤ) where
         ]
       ]
 
-  rim_apart : (rows : List ℤ) → x0 <ℤ x1 → IsOneOf rows y0 → IsOneOf rows y1 → (e f : Edge) (p : PlanePoint) → IsOneOf Rim e → IsOneOf Rim f → IsOn e p → IsOn f p → IsOffRows rows p → e ≡ f
+  rim_apart : (rows : List ℤ) → x0 <ℤ x1 → IsAmong rows y0 → IsAmong rows y1 → (e f : Edge) (p : PlanePoint) → IsAmong Rim e → IsAmong Rim f → IsOn e p → IsOn f p → IsOffRows rows p → e ≡ f
   rim_apart rows hx r0 r1 e f p i j oe of off =
       let m = mul_lt p.scale x0 x1 p.positive hx in
       elim (upright_side rows e p r0 r1 i oe off) [

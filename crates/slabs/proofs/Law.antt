@@ -4,14 +4,15 @@ use Rattle.std.specs.Prelude.{ℤ, pos, ◌-ℤ◌, ◌*ℤ◌, ◌≤ℤ◌, �
 use Rattle.std.specs.List.{All}
 use Rattle.std.proofs.lemmas.Int.{ints, by_lt_z}
 use Rattle.plane.specs.Plane.{PlanePoint, grid_point}
-use Rattle.plane.proofs.Times.{mul_lt}
-use Rattle.covering.specs.Covering.{Edge, IsOn, Between, crossing, Covers}
-use Rattle.covering.specs.Ends.{crossing_below}
-use Rattle.covering.proofs.Counts.{Counts}
-use Rattle.covering.proofs.Lists.{any_none, any_head, any_tail, any_cases, covers_on, covers_odd, covers_cases}
-use Rattle.slabs.specs.Slabs.{IsOneOf, IsAt, AreCuts, AreClosed, AreInOrder, IsFramed, IsAmid, IsPair, IsWay, IsInPair, IsOnLevel, SlabsLaw, PairsLaw}
+use Rattle.grid_num.proofs.Products.{mul_lt}
+use Rattle.plane.specs.Covering.{Edge, IsOn, Between, crossing, Covers}
+use Rattle.plane.specs.Ends.{crossing_below}
+use Rattle.plane.proofs.Counts.{Counts}
+use Rattle.plane.proofs.Lists.{any_none, any_head, any_tail, any_cases, covers_on, covers_odd, covers_cases}
+use Rattle.slabs.specs.Slabs.{IsAmong, IsAt, AreCuts, AreClosed, AreCutsInOrder, IsFramed, IsAmid, IsPairAt, IsWay, IsInPair, IsOnLevel, SlabsLaw, PairsLaw}
 use Rattle.slabs.proofs.At.{somewhere, crosses, cut_on, on_at, along_down}
-use Rattle.slabs.proofs.Below.{CountsBelow, crosses_below}
+use Rattle.plane.proofs.Below.{CountsBelow}
+use Rattle.slabs.proofs.Below.{crosses_below}
 use Rattle.slabs.proofs.Order.{IsCutOf, AreLined, lined, one_of}
 use Rattle.slabs.proofs.Pairs.{AreAligned, aligned, odd_pair, pair_odd, pair_all, pair_framed}
 use Rattle.slabs.proofs.Closed.{far_of, far_left}
@@ -57,7 +58,7 @@ told_some (e ∷ es) p =
       ]
     ]
 
-pub one_on : (es : List Edge) (e : Edge) (p : PlanePoint) → IsOneOf es e → IsOn e p → Any (λ e. IsOn e p) es
+pub one_on : (es : List Edge) (e : Edge) (p : PlanePoint) → IsAmong es e → IsOn e p → Any (λ e. IsOn e p) es
 one_on es e p a o = (a.0, a.1, a.2, a.3, subst (λ (g : Edge). IsOn g p) (sym a.4) o)
 
 -- ---- what is known of the cuts of closed edges
@@ -66,7 +67,7 @@ record IsKnown (rows : List ℤ) (es cs : List Edge) : Type 0 where
   line : AreLined cs
   pairs : AreAligned cs
 
-known : (rows : List ℤ) (es cs : List Edge) → AreClosed rows es → AreCuts rows es cs → AreInOrder cs → IsKnown rows es cs
+known : (rows : List ℤ) (es cs : List Edge) → AreClosed rows es → AreCuts rows es cs → AreCutsInOrder cs → IsKnown rows es cs
 known rows es cs closed cuts order =
     let bound = far_of es in
     let far = bound.0 in
@@ -76,7 +77,7 @@ known rows es cs closed cuts order =
     record {
       ways = ways;
       line = line;
-      pairs = aligned (λ (y : ℤ). crossing (grid_point far y)) (λ y. IsOneOf rows y) cs ways line
+      pairs = aligned (λ (y : ℤ). crossing (grid_point far y)) (λ y. IsAmong rows y) cs ways line
           (λ k d h. (cuts.each k d h).2.top)
           (λ y row k d h. (let a = cuts.each k d h in let b = one_of (λ e. (e.start.x <ℤ far) × (e.finish.x <ℤ far)) es a.0 bound.1 a.1 in top_marks rows a.0 (get_or cs k d) far y a.2 b.0 b.1 row))
           (λ y row. (let e = closed.even (grid_point far y) (far_left es far y bound.1) in let c = cuts.count (grid_point far y) in omega (arith, e, c)));
@@ -89,8 +90,8 @@ pairs_law rows es cs j l r closed cuts order i =
     (w.0, w.1, pair_framed cs j l r k.pairs i)
 
 -- ---- from covered to between
-any_pair : (P : Edge → Type 0) (cs : List Edge) → AreAligned cs → Any P cs → (j : ℕ) × (l : Edge) × (r : Edge) × IsPair cs j l r × (P l ⊎ P r)
-unfolding AreAligned IsPair
+any_pair : (P : Edge → Type 0) (cs : List Edge) → AreAligned cs → Any P cs → (j : ℕ) × (l : Edge) × (r : Edge) × IsPairAt cs j l r × (P l ⊎ P r)
+unfolding AreAligned IsPairAt
 any_pair P [] a s = absurd (any_none P s)
 any_pair P (c ∷ []) a s = absurd a
 any_pair P (c ∷ d ∷ cs) a s =
@@ -179,7 +180,7 @@ unless : (a b : ℤ) → a ≤ℤ b → (a ≡ b → ⊥) → a <ℤ b
 unless a b l n = by_lt_z {P = a <ℤ b} a b (λ m. m) (λ m. absurd (n (omega (arith, ints))))
 
 from_pair : (rows : List ℤ) (es cs : List Edge) (p : PlanePoint) (j : ℕ) (l r : Edge) → AreClosed rows es → AreCuts rows es cs → IsKnown rows es cs
-    → IsPair cs j l r → IsAmid l r p → (Any (λ e. IsOn e p) es → ⊥) → sum_by (crossing p) es % 2 ≡ 1
+    → IsPairAt cs j l r → IsAmid l r p → (Any (λ e. IsOn e p) es → ⊥) → sum_by (crossing p) es % 2 ≡ 1
 from_pair rows es cs p j l r closed cuts k i m off =
     let f = pair_framed cs j l r k.pairs i in
     let v = pair_all IsWay cs j l r k.ways i in

@@ -3,17 +3,18 @@ use Rattle.std.proofs.Common.{◌≡◌, ℕ, ◌+◌, ◌≤◌, ◌⊎◌, inl
 use Rattle.std.specs.Prelude.{ℤ, pos, ◌*ℤ◌, ◌≤ℤ◌, ◌<ℤ◌}
 use Rattle.std.proofs.lemmas.Int.{ints, by_lt_z}
 use Rattle.plane.specs.Plane.{PlanePoint, grid_point}
-use Rattle.plane.proofs.Times.{mul_le}
-use Rattle.covering.specs.Covering.{Edge, Between, crossing}
-use Rattle.covering.specs.Ends.{crossing_below}
-use Rattle.covering.proofs.Counts.{Counts}
-use Rattle.slabs.specs.Slabs.{IsOneOf, IsAt, IsInLine, IsCut, IsFramed, IsWay}
+use Rattle.grid_num.proofs.Products.{mul_le}
+use Rattle.plane.specs.Covering.{Edge, Between, crossing}
+use Rattle.plane.specs.Ends.{crossing_below}
+use Rattle.plane.proofs.Counts.{Counts}
+use Rattle.slabs.specs.Slabs.{IsAmong, IsAt, IsInLine, IsCutOfEdge, IsFramed, IsWay}
 use Rattle.slabs.proofs.At.{Passes, passes, ordered, somewhere, steep, crosses}
-use Rattle.slabs.proofs.Below.{CountsBelow, crosses_below}
+use Rattle.plane.proofs.Below.{CountsBelow}
+use Rattle.slabs.proofs.Below.{crosses_below}
 use Rattle.slabs.proofs.Order.{one_of}
 use Rattle.slabs.proofs.Pairs.{IsMarking, IsTop}
 
-pub way : (rows : List ℤ) (e c : Edge) → IsCut rows e c → IsWay c
+pub way : (rows : List ℤ) (e c : Edge) → IsCutOfEdge rows e c → IsWay c
 way rows e c a = record { down = a.down; steep = steep e c a.line }
 
 pub order_at : (c d : Edge) (k : ℕ) (y z z' : ℤ) → IsFramed c d → IsAt c k y z → IsAt d k y z' → (pos k *ℤ c.start.y) ≤ℤ y → y ≤ℤ (pos k *ℤ c.finish.y) → z ≤ℤ z'
@@ -103,7 +104,7 @@ count_else : (n : ℕ) (c : Edge) (y z far : ℤ) → (y <ℤ c.start.y) ⊎ (c.
 count_else n c y z far o (inl h) = absurd (omega (arith, ints, h, o))
 count_else n c y z far o (inr h) = h.0
 
-pub top_marks : (rows : List ℤ) (e c : Edge) (far y : ℤ) → IsCut rows e c → e.start.x <ℤ far → e.finish.x <ℤ far → IsOneOf rows y → IsTop (λ (y : ℤ). crossing (grid_point far y)) y c
+pub top_marks : (rows : List ℤ) (e c : Edge) (far y : ℤ) → IsCutOfEdge rows e c → e.start.x <ℤ far → e.finish.x <ℤ far → IsAmong rows y → IsTop (λ (y : ℤ). crossing (grid_point far y)) y c
 top_marks rows e c far y a l m row =
     let w = way rows e c a in
     let p = grid_point far y in

@@ -4,36 +4,36 @@ use Rattle.std.specs.Prelude.{ℤ, pos, ◌+ℤ◌, ◌*ℤ◌, ◌≤ℤ◌, �
 use Rattle.std.specs.List.{All}
 use Rattle.std.proofs.lemmas.Int.{ints, by_lt_z}
 use Rattle.plane.specs.Plane.{PlanePoint}
-use Rattle.covering.specs.Covering.{Edge, Between}
-use Rattle.slabs.specs.Slabs.{IsOneOf, IsInLine, IsCut, AreClosed, IsOffRows, IsBefore, AreInOrder, IsFramed}
+use Rattle.plane.specs.Covering.{Edge, Between}
+use Rattle.slabs.specs.Slabs.{IsAmong, IsInLine, IsCutOfEdge, AreClosed, IsOffRows, IsCutBefore, AreCutsInOrder, IsFramed}
 use Rattle.slabs.proofs.At.{steep, swapped, cut_on}
 
-pub one_of : {X : Type 0} (P : X → Type 0) (xs : List X) (x : X) → All P xs → IsOneOf xs x → P x
+pub one_of : {X : Type 0} (P : X → Type 0) (xs : List X) (x : X) → All P xs → IsAmong xs x → P x
 one_of P xs x all a = subst P a.4 (subst P a.3 (all a.0 a.1 a.2))
 
 -- c is cut from one of the edges
 abbrev pub IsCutOf : List ℤ → List Edge → Edge → Type 0
-IsCutOf rows es c = (e : Edge) × IsOneOf es e × IsCut rows e c
+IsCutOf rows es c = (e : Edge) × IsAmong es e × IsCutOfEdge rows e c
 
 -- d lies in the slab of c and nowhere left of it, or in a lower slab
 abbrev pub IsBeside : Edge → Edge → Type 0
 IsBeside c d = IsFramed c d ⊎ (c.finish.y ≤ℤ d.start.y)
 
 -- ---- rows
-not_above : (rows : List ℤ) (e f c d : Edge) → IsCut rows e c → IsCut rows f d → c.start.y ≡ d.start.y → c.finish.y ≤ℤ d.finish.y
+not_above : (rows : List ℤ) (e f c d : Edge) → IsCutOfEdge rows e c → IsCutOfEdge rows f d → c.start.y ≡ d.start.y → c.finish.y ≤ℤ d.finish.y
 not_above rows e f c d a b s =
     elim (one_of (λ z. (z ≤ℤ c.start.y) ⊎ (c.finish.y ≤ℤ z)) rows d.finish.y a.next b.bottom) [
       | inl h ↦ absurd (omega (arith, ints, h, b.down, s))
       | inr h ↦ h
     ]
 
-pub same_bottom : (rows : List ℤ) (e f c d : Edge) → IsCut rows e c → IsCut rows f d → c.start.y ≡ d.start.y → c.finish.y ≡ d.finish.y
+pub same_bottom : (rows : List ℤ) (e f c d : Edge) → IsCutOfEdge rows e c → IsCutOfEdge rows f d → c.start.y ≡ d.start.y → c.finish.y ≡ d.finish.y
 same_bottom rows e f c d a b s =
     let h = not_above rows e f c d a b s in
     let g = not_above rows f e d c b a (sym s) in
     omega (arith, ints, h, g)
 
-pub lower_slab : (rows : List ℤ) (e f c d : Edge) → IsCut rows e c → IsCut rows f d → c.start.y <ℤ d.start.y → c.finish.y ≤ℤ d.start.y
+pub lower_slab : (rows : List ℤ) (e f c d : Edge) → IsCutOfEdge rows e c → IsCutOfEdge rows f d → c.start.y <ℤ d.start.y → c.finish.y ≤ℤ d.start.y
 lower_slab rows e f c d a b s =
     elim (one_of (λ z. (z ≤ℤ c.start.y) ⊎ (c.finish.y ≤ℤ z)) rows d.start.y a.next b.top) [ inl h ↦ absurd (omega (arith, ints, h, s)) | inr h ↦ h ]
 
@@ -58,7 +58,7 @@ same_line e c d n f g s (inr (inr a)) (inl b) = omega (arith, ints)
 same_line e c d n f g s (inr (inr a)) (inr (inl b)) = omega (arith, ints)
 same_line e c d n f g s (inr (inr a)) (inr (inr b)) = omega (arith, ints)
 
-not_swapped : (rows : List ℤ) (es : List Edge) (e f c d : Edge) → AreClosed rows es → IsOneOf es e → IsOneOf es f → IsCut rows e c → IsCut rows f d
+not_swapped : (rows : List ℤ) (es : List Edge) (e f c d : Edge) → AreClosed rows es → IsAmong es e → IsAmong es f → IsCutOfEdge rows e c → IsCutOfEdge rows f d
     → c.start.y ≡ d.start.y → c.start.x <ℤ d.start.x → d.finish.x <ℤ c.finish.x → ⊥
 not_swapped rows es e f c d closed i j a b s l r =
     let t = same_bottom rows e f c d a b s in
@@ -84,14 +84,14 @@ framed rows es c d closed a b s h = record {
       (λ l. l);
 }
 
-pub beside : (rows : List ℤ) (es : List Edge) (c d : Edge) → AreClosed rows es → IsCutOf rows es c → IsCutOf rows es d → IsBefore c d → IsBeside c d
-unfolding IsBefore
+pub beside : (rows : List ℤ) (es : List Edge) (c d : Edge) → AreClosed rows es → IsCutOf rows es c → IsCutOf rows es d → IsCutBefore c d → IsBeside c d
+unfolding IsCutBefore
 beside rows es c d closed a b (inl l) = inr (lower_slab rows a.0 b.0 c d a.2 b.2 l)
 beside rows es c d closed a b (inr h) = inl (framed rows es c d closed a b h.0 h.1)
 
 -- ---- lists in order
-before_trans : (c d e : Edge) → IsBefore c d → IsBefore d e → IsBefore c e
-unfolding IsBefore
+before_trans : (c d e : Edge) → IsCutBefore c d → IsCutBefore d e → IsCutBefore c e
+unfolding IsCutBefore
 before_trans c d e (inl h) (inl g) = inl (omega (arith, ints, h, g))
 before_trans c d e (inl h) (inr g) = inl (omega (arith, ints, h, g))
 before_trans c d e (inr h) (inl g) = inl (omega (arith, ints, h, g))
@@ -103,19 +103,19 @@ all_head P x xs a = a 0 x (omega arith)
 pub all_tail : {X : Type 0} (P : X → Type 0) (x : X) (xs : List X) → All P (x ∷ xs) → All P xs
 all_tail P x xs a = λ k d h. a (suc k) d (omega (arith, h))
 
-order_tail : (c : Edge) (cs : List Edge) → AreInOrder (c ∷ cs) → AreInOrder cs
+order_tail : (c : Edge) (cs : List Edge) → AreCutsInOrder (c ∷ cs) → AreCutsInOrder cs
 order_tail c cs o = λ k d h.
     let e : suc k + 1 ≡ suc (k + 1) = omega arith in
-    subst (λ (n : ℕ). IsBefore (get_or cs k d) (get_or (c ∷ cs) n d)) e (o (suc k) d (omega (arith, h)))
+    subst (λ (n : ℕ). IsCutBefore (get_or cs k d) (get_or (c ∷ cs) n d)) e (o (suc k) d (omega (arith, h)))
 
-all_before : (c : Edge) (cs : List Edge) → AreInOrder (c ∷ cs) → All (IsBefore c) cs
+all_before : (c : Edge) (cs : List Edge) → AreCutsInOrder (c ∷ cs) → All (IsCutBefore c) cs
 all_before c [] o = λ k d h. absurd (omega (arith, h))
 all_before c (e ∷ cs) o = at (all_before e cs (order_tail c (e ∷ cs) o))
   where
-    first : IsBefore c e
+    first : IsCutBefore c e
     first = o 0 c (omega arith)
 
-    at : All (IsBefore e) cs → (k : ℕ) (d : Edge) → k < length (e ∷ cs) → IsBefore c (get_or (e ∷ cs) k d)
+    at : All (IsCutBefore e) cs → (k : ℕ) (d : Edge) → k < length (e ∷ cs) → IsCutBefore c (get_or (e ∷ cs) k d)
     at all zero d h = first
     at all (suc k) d h = before_trans c e (get_or cs k d) first (all k d (omega (arith, h)))
 
@@ -124,7 +124,7 @@ unfoldable pub AreLined : List Edge → Type 0
 AreLined [] = Unit {0}
 AreLined (c ∷ cs) = All (IsBeside c) cs × AreLined cs
 
-pub lined : (rows : List ℤ) (es cs : List Edge) → AreClosed rows es → All (IsCutOf rows es) cs → AreInOrder cs → AreLined cs
+pub lined : (rows : List ℤ) (es cs : List Edge) → AreClosed rows es → All (IsCutOf rows es) cs → AreCutsInOrder cs → AreLined cs
 unfolding AreLined
 lined rows es [] closed each o = tt
 lined rows es (c ∷ cs) closed each o =

@@ -5,14 +5,14 @@ use Rattle.std.specs.List.{All}
 use Rattle.std.proofs.lemmas.Int.{ints, by_lt_z}
 use Rattle.std.proofs.lemmas.List.Sums.{sum_by-cons, sum_by-append}
 use Rattle.plane.specs.Plane.{PlanePoint, In, StrictlyIn, StrictlyWithin, box_of}
-use Rattle.plane.proofs.Times.{mul_add, mul_sub, mul_lt}
+use Rattle.grid_num.proofs.Products.{mul_add, mul_sub, mul_lt}
 use Rattle.grid_num.specs.declared.Point.{Point}
-use Rattle.covering.specs.Covering.{Edge, IsOn, crossing, Covers, edges_to, edges_of}
-use Rattle.covering.specs.Edges.{turned, IsOctilinear, AreOctilinear}
-use Rattle.covering.specs.Corners.{box_corners}
-use Rattle.covering.proofs.Laws.{crossing_turned}
-use Rattle.covering.proofs.Repeats.{box_cover_law, strict_box_cover_law}
-use Rattle.covering.proofs.Lists.{any_left, any_right, any_parts, covers_on, covers_odd, covers_cases}
+use Rattle.plane.specs.Covering.{Edge, IsOn, crossing, Covers, edges_to, edges_of}
+use Rattle.plane.specs.Edges.{turned_back, IsOctilinear, AreOctilinear}
+use Rattle.plane.specs.Corners.{box_corners}
+use Rattle.plane.proofs.CoverLaws.{crossing_turned}
+use Rattle.plane.proofs.Repeats.{box_cover_law, strict_box_cover_law}
+use Rattle.plane.proofs.Lists.{any_left, any_right, any_parts, covers_on, covers_odd, covers_cases}
 use Rattle.slabs.specs.Outside.{IsOutside, OutsideLaw}
 use Rattle.slabs.proofs.At.{Passes, passes, somewhere, crosses}
 use Rattle.slabs.proofs.Order.{all_head, all_tail}
@@ -61,8 +61,8 @@ crossed_down e p o d =
       | inr h ↦ inl h.0
     ]
 
-other_way : (e : Edge) (p : PlanePoint) → (crossing p (turned e) ≡ 0) ⊎ IsCrossed (turned e) p → (crossing p e ≡ 0) ⊎ IsCrossed e p
-unfolding turned
+other_way : (e : Edge) (p : PlanePoint) → (crossing p (turned_back e) ≡ 0) ⊎ IsCrossed (turned_back e) p → (crossing p e ≡ 0) ⊎ IsCrossed e p
+unfolding turned_back
 other_way e p (inl h) = inl (sym (crossing_turned p e) ∙ h)
 other_way e p (inr (inl r, inl c)) = inr (inr r, inr c)
 other_way e p (inr (inl r, inr c)) = inr (inr r, inl c)
@@ -70,12 +70,12 @@ other_way e p (inr (inr r, inl c)) = inr (inl r, inr c)
 other_way e p (inr (inr r, inr c)) = inr (inl r, inl c)
 
 crossed_at : (e : Edge) (p : PlanePoint) → IsOctilinear e → (crossing p e ≡ 0) ⊎ IsCrossed e p
-unfolding turned
+unfolding turned_back
 crossed_at e p o =
     by_lt_z {P = (crossing p e ≡ 0) ⊎ IsCrossed e p} e.start.y e.finish.y
     (λ d. crossed_down e p o d)
     (λ d. by_lt_z {P = (crossing p e ≡ 0) ⊎ IsCrossed e p} e.finish.y e.start.y
-    (λ u. other_way e p (crossed_down (turned e) p (turned_octilinear e o) u))
+    (λ u. other_way e p (crossed_down (turned_back e) p (turned_octilinear e o) u))
     (λ u. inl (level_none e p (omega (arith, ints)))))
 
 none_crossed : (es : List Edge) (p : PlanePoint) → AreOctilinear es → All (λ e. IsCrossed e p → ⊥) es → sum_by (crossing p) es ≡ 0

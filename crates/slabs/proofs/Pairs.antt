@@ -4,8 +4,8 @@ use Rattle.std.specs.Prelude.{ℤ, ◌≤ℤ◌, ◌<ℤ◌, sum_by}
 use Rattle.std.specs.List.{All}
 use Rattle.std.proofs.lemmas.Int.{ints}
 use Rattle.std.proofs.lemmas.List.Sums.{sum_by-cons}
-use Rattle.covering.specs.Covering.{Edge}
-use Rattle.slabs.specs.Slabs.{IsFramed, IsPair, IsWay}
+use Rattle.plane.specs.Covering.{Edge}
+use Rattle.slabs.specs.Slabs.{IsFramed, IsPairAt, IsWay}
 use Rattle.slabs.proofs.Order.{IsBeside, AreLined, all_head, all_tail}
 
 -- two and two lie in one slab
@@ -28,8 +28,8 @@ none_marked f (c ∷ cs) h =
     let s = sum_by-cons f c cs in
     omega (arith, a, b, s)
 
-pub pair_all : (P : Edge → Type 0) (cs : List Edge) (j : ℕ) (l r : Edge) → All P cs → IsPair cs j l r → P l × P r
-unfolding IsPair
+pub pair_all : (P : Edge → Type 0) (cs : List Edge) (j : ℕ) (l r : Edge) → All P cs → IsPairAt cs j l r → P l × P r
+unfolding IsPairAt
 pair_all P [] j l r a h = absurd h
 pair_all P (c ∷ []) j l r a h = absurd h
 pair_all P (c ∷ d ∷ cs) zero l r a h =
@@ -38,8 +38,8 @@ pair_all P (c ∷ d ∷ cs) zero l r a h =
     (rw (← h.0) x, rw (← h.1) y)
 pair_all P (c ∷ d ∷ cs) (suc j) l r a h = pair_all P cs j l r (all_tail P d cs (all_tail P c (d ∷ cs) a)) h
 
-pub pair_framed : (cs : List Edge) (j : ℕ) (l r : Edge) → AreAligned cs → IsPair cs j l r → IsFramed l r
-unfolding IsPair AreAligned
+pub pair_framed : (cs : List Edge) (j : ℕ) (l r : Edge) → AreAligned cs → IsPairAt cs j l r → IsFramed l r
+unfolding IsPairAt AreAligned
 pair_framed [] j l r a h = absurd h
 pair_framed (c ∷ []) j l r a h = absurd h
 pair_framed (c ∷ d ∷ cs) zero l r a h = rw (← h.0, ← h.1) a.0
@@ -56,8 +56,8 @@ split_bits (suc zero) (suc n) h g a b = b (omega (arith, g))
 split_bits (suc (suc m)) n h g a b = absurd (omega (arith, h))
 
 pub odd_pair : (f : Edge → ℕ) (cs : List Edge) → IsMarking f → All IsWay cs → AreAligned cs → sum_by f cs % 2 ≡ 1
-    → (j : ℕ) × (l : Edge) × (r : Edge) × IsPair cs j l r × (f l ≡ 1) × (f r ≡ 0)
-unfolding IsPair AreAligned
+    → (j : ℕ) × (l : Edge) × (r : Edge) × IsPairAt cs j l r × (f l ≡ 1) × (f r ≡ 0)
+unfolding IsPairAt AreAligned
 odd_pair f [] m ways a o = absurd (omega (arith, o))
 odd_pair f (c ∷ []) m ways a o = absurd a
 odd_pair f (c ∷ d ∷ cs) m ways a o =
@@ -65,7 +65,7 @@ odd_pair f (c ∷ d ∷ cs) m ways a o =
     let rest = all_tail IsWay c (d ∷ cs) ways in
     let y = all_head IsWay d cs rest in
     let s = sum_two f c d cs in
-    split_bits {P = (j : ℕ) × (l : Edge) × (r : Edge) × IsPair (c ∷ d ∷ cs) j l r × (f l ≡ 1) × (f r ≡ 0)} (f c) (f d) (m.bit c x) (m.falls c d x y a.0)
+    split_bits {P = (j : ℕ) × (l : Edge) × (r : Edge) × IsPairAt (c ∷ d ∷ cs) j l r × (f l ≡ 1) × (f r ≡ 0)} (f c) (f d) (m.bit c x) (m.falls c d x y a.0)
     (λ h g. (zero, c, d, (refl, refl), h, g))
     (λ h. (let w = odd_pair f cs m (all_tail IsWay d cs rest) a.1 (omega (arith, o, s, h)) in (suc w.0, w.1, w.2, w.3, w.4, w.5)))
 
@@ -88,9 +88,9 @@ earlier_even f c d l m x y z a (inr w) h =
     let v = m.once c l x z (omega (arith, ints, w, a.bottom)) in
     omega (arith, u, v, h)
 
-pub pair_odd : (f : Edge → ℕ) (cs : List Edge) (j : ℕ) (l r : Edge) → IsMarking f → All IsWay cs → AreAligned cs → AreLined cs → IsPair cs j l r → f l ≡ 1 → f r ≡ 0
+pub pair_odd : (f : Edge → ℕ) (cs : List Edge) (j : ℕ) (l r : Edge) → IsMarking f → All IsWay cs → AreAligned cs → AreLined cs → IsPairAt cs j l r → f l ≡ 1 → f r ≡ 0
     → sum_by f cs % 2 ≡ 1
-unfolding IsPair AreAligned AreLined
+unfolding IsPairAt AreAligned AreLined
 pair_odd f [] j l r m ways a b i h g = absurd i
 pair_odd f (c ∷ []) j l r m ways a b i h g = absurd i
 pair_odd f (c ∷ d ∷ cs) zero l r m ways a b i h g =

@@ -1,3 +1,3 @@
 pub mod Slabs
-pub mod Cutting
 pub mod Outside
+pub mod Inner

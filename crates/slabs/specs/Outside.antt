@@ -3,10 +3,10 @@ use Rattle.std.specs.Prelude.{◌≡◌, ◌⊎◌, ℤ, ◌≤ℤ◌, ◌<ℤ�
 use Rattle.std.specs.List.{All}
 use Rattle.plane.specs.Plane.{PlanePoint, Bounds, In, StrictlyWithin, box_of}
 use Rattle.grid_num.specs.declared.Point.{Point}
-use Rattle.covering.specs.Covering.{Edge, IsOn, Covers, edges_of}
-use Rattle.covering.specs.Edges.{AreOctilinear}
-use Rattle.covering.specs.Corners.{box_corners}
-use Rattle.slabs.specs.Slabs.{AreClosed, IsOneOf}
+use Rattle.plane.specs.Covering.{Edge, IsOn, Covers, edges_of}
+use Rattle.plane.specs.Edges.{AreOctilinear}
+use Rattle.plane.specs.Corners.{box_corners}
+use Rattle.slabs.specs.Slabs.{AreClosed, IsAmong}
 
 -- p is in the frame, and not covered or on an edge: where the edges are an outline, that is the frame's part outside
 -- the outline together with its limits
@@ -34,6 +34,6 @@ OutsideLaw =
 -- and both are closed together
 abbrev pub FramedLaw : Type 0
 FramedLaw =
-    (rows : List ℤ) (x0 x1 y0 y1 : ℤ) (cs : List Point) → x0 <ℤ x1 → y0 <ℤ y1 → IsOneOf rows y0 → IsOneOf rows y1
+    (rows : List ℤ) (x0 x1 y0 y1 : ℤ) (cs : List Point) → x0 <ℤ x1 → y0 <ℤ y1 → IsAmong rows y0 → IsAmong rows y1
     → All (λ v. StrictlyWithin (box_of x0 x1 y0 y1) v.x v.y) cs → AreClosed rows (edges_of cs)
     → AreClosed rows (edges_of cs ++ edges_of (box_corners x0 x1 y0 y1))

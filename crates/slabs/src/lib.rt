@@ -3,8 +3,8 @@
 //! A coordinate has the unit that its user names.
 #![tactic(auto)]
 
-ghost use Rattle.slabs.specs.Slabs.{SlabsLaw, PairsLaw, RowsLaw, ChainLaw, TogetherLaw};
-ghost use Rattle.slabs.specs.Cutting.{BeginLaw, StepLaw, EndLaw, TurnedCutsLaw, MoreCutsLaw, LevelCutsLaw, AmidLaw};
+ghost use Rattle.slabs.specs.Slabs.{SlabsLaw, PairsLaw, MoreRowsLaw, ChainLaw, ClosedTogetherLaw};
+ghost use Rattle.slabs.specs.Inner.Cutting.{BeginLaw, StepLaw, EndLaw, TurnedCutsLaw, MoreCutsLaw, LevelCutsLaw, AmidLaw};
 ghost use Rattle.slabs.specs.Outside.{OutsideLaw, FramedLaw};
 
 /// Closed edges cover just what lies between the cuts of pairs, and their level edges: in each slab between the first
@@ -22,8 +22,8 @@ pub fn pairs_law()
 /// touch each other, and more rows don't matter.
 pub fn closed_law()
     ensures chain { ChainLaw }
-    ensures together { TogetherLaw }
-    ensures rows { RowsLaw }
+    ensures together { ClosedTogetherLaw }
+    ensures rows { MoreRowsLaw }
 {}
 
 /// The cuts of an edge, from its top to its bottom, in either direction.

@@ -3,11 +3,11 @@ use Rattle.std.proofs.Common.{◌≡◌, subst, refl, sym, ◌∙◌, ap, ℕ, �
 use Rattle.std.specs.Prelude.{ℤ, pos, ◌+ℤ◌, ◌-ℤ◌, ◌*ℤ◌, Contains}
 use Rattle.std.proofs.lemmas.Int.{ints}
 use Rattle.plane.specs.Plane.{PlanePoint, Bounds, Within, times, In, grid_point}
-use Rattle.plane.proofs.Times.{mul_le_back, mul_add, mul_sub}
+use Rattle.grid_num.proofs.Products.{mul_le_back, mul_add, mul_sub}
 use Rattle.plane.proofs.Moved.{grid_law}
-use Rattle.covering.proofs.On.{same_pos}
-use Rattle.strips.specs.Strips.{Direction, Level, Upright, Rising, Falling, IsOnSide, IsCrossing, IsCut}
-use Rattle.strips.specs.Laws.{WholeLaw}
+use Rattle.plane.proofs.On.{same_pos}
+use Rattle.strips.specs.Strips.{Direction, Level, Upright, Rising, Falling, IsOnSide, IsCrossing, IsCutRow}
+use Rattle.strips.specs.Laws.{WholeCrossingLaw}
 
 -- the place (x, y) is on a side of that direction
 unfoldable pub IsSideAt : Bounds → Direction → ℤ → ℤ → Type 0
@@ -30,8 +30,8 @@ whole_side b Upright x y h = ((grid_law b x y).1 h.0, elim (h.1) [ inl e ↦ inl
 whole_side b Rising x y h = ((grid_law b x y).1 h.0, elim (h.1) [ inl e ↦ inl (omega (arith, ints, e)) | inr e ↦ inr (omega (arith, ints, e)) ])
 whole_side b Falling x y h = ((grid_law b x y).1 h.0, elim (h.1) [ inl e ↦ inl (omega (arith, ints, e)) | inr e ↦ inr (omega (arith, ints, e)) ])
 
-pub cut_of : (os : List Bounds) (r : ℤ) → IsCutAt os r → IsCut os r
-unfolding IsCutAt IsCut IsCrossing
+pub cut_of : (os : List Bounds) (r : ℤ) → IsCutAt os r → IsCutRow os r
+unfolding IsCutAt IsCutRow IsCrossing
 cut_of os r h =
     (h.0, h.1, h.5, h.6, grid_point h.4 r, (h.2, h.3, h.7, whole_side h.0 h.2 h.4 r h.8, whole_side h.1 h.3 h.4 r h.9), omega (arith, ints))
 
@@ -123,8 +123,8 @@ one_sloped a b Upright j p r n e g h = from_side a Upright p r (sloped Upright (
 one_sloped a b Rising j p r n e g h = from_side a Rising p r (sloped Rising (λ z. z)) e g
 one_sloped a b Falling j p r n e g h = from_side a Falling p r (sloped Falling (λ z. z)) e g
 
-pub cut_at : (os : List Bounds) (r : ℤ) → IsCut os r → IsCutAt os r
-unfolding IsCutAt IsCut IsCrossing IsWholeAt
+pub cut_at : (os : List Bounds) (r : ℤ) → IsCutRow os r → IsCutAt os r
+unfolding IsCutAt IsCutRow IsCrossing IsWholeAt
 cut_at os r h =
     let c = h.5 in
     let w = one_sloped h.0 h.1 c.0 c.1 h.4 r c.2 h.6 c.3 c.4 in
@@ -185,7 +185,7 @@ lines_meet Falling Upright p a b n g h = ((pos 2 *ℤ b, h), (pos 2 *ℤ a -ℤ 
 lines_meet Falling Rising p a b n g h = both_even p.scale p.x p.y a b g h
 lines_meet Falling Falling p a b n g h = absurd (n refl)
 
-pub whole_law : WholeLaw
+pub whole_law : WholeCrossingLaw
 unfolding IsCrossing
 whole_law a b p h =
     let x = line_of a h.0 p h.3 in

@@ -3,7 +3,7 @@ use Rattle.std.proofs.Common.{arith, lit≤}
 use Rattle.std.specs.Prelude.{◌+ℤ◌, ◌-ℤ◌}
 use Rattle.std.proofs.lemmas.Int.{ints}
 use Rattle.plane.specs.Plane.{Bounds, IsTight}
-use Rattle.plane.proofs.Times.{mul_lt_back}
+use Rattle.grid_num.proofs.Products.{mul_lt_back}
 use Rattle.plane.proofs.Tight.{top_left_x, top_right_y, bottom_right_x, bottom_left_y}
 use Rattle.strips.specs.Strips.{HasInside, IsStout}
 use Rattle.strips.specs.Laws.{InsideLaw}

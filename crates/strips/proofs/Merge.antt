@@ -3,12 +3,12 @@ use Rattle.std.proofs.Common.{◌≡◌, subst, refl, sym, ◌∙◌, ap, ◌⊎
 use Rattle.std.specs.Prelude.{ℤ, ◌+ℤ◌, ◌≤ℤ◌, ◌<ℤ◌, ◌↔◌, Any}
 use Rattle.std.proofs.lemmas.Int.{ints, by_lt_z}
 use Rattle.plane.specs.Plane.{PlanePoint, Bounds}
-use Rattle.covering.proofs.Lists.{any_none, any_head, any_tail, any_cases}
-use Rattle.covering.proofs.Counts.{less_true, less_false}
+use Rattle.plane.proofs.Lists.{any_none, any_head, any_tail, any_cases}
+use Rattle.plane.proofs.Counts.{less_true, less_false}
 use Rattle.strips.specs.declared.Strip.{Strip}
-use Rattle.strips.specs.Strips.{IsInStrip, IsApart}
+use Rattle.strips.specs.Strips.{IsInStrip, AreApartInSlab}
 use Rattle.strips.proofs.Slab.{IsRun}
-use Rattle.strips.specs.Merge.{joined, merged_from}
+use Rattle.strips.specs.Inner.Merge.{joined, merged_from}
 use Rattle.strips.proofs.Slab.{IsNotRight, strip, kept_law, grown_law, grown_run}
 use Rattle.strips.proofs.Lines.{IsSideLine, IsClean, ordered}
 
@@ -132,7 +132,7 @@ step os t u a b d c x y f h =
 -- the first of a list of runs that begins at a's left, and the rest apart from left to right
 unfoldable pub IsApartFrom : Strip → List Strip → Type 0
 IsApartFrom a [] = Unit {0}
-IsApartFrom a (b ∷ bs) = IsApart a b × IsApartFrom b bs
+IsApartFrom a (b ∷ bs) = AreApartInSlab a b × IsApartFrom b bs
 
 unfoldable pub AreApart : List Strip → Type 0
 AreApart [] = Unit {0}
@@ -146,7 +146,7 @@ unfolding IsRising
 rising_again a c b [] e f n r = tt
 rising_again a c b (d ∷ ds) e f n r = let m = r.0 in (record { start = omega (arith, ints); finish = omega (arith, ints) }, r.1)
 
-step_apart : (os : List Bounds) (t u : ℤ) (z a b c : Strip) → IsStep os t u a b c → IsApart z a → IsApart z c
+step_apart : (os : List Bounds) (t u : ℤ) (z a b c : Strip) → IsStep os t u a b c → AreApartInSlab z a → AreApartInSlab z c
 unfolding IsStep
 step_apart os t u z a b c s h = let e = s.1 in let f = s.2 in record { start = omega (arith, ints, h.start, e); finish = omega (arith, ints, h.finish, f); gap = omega (arith, ints, h.gap, e, f) }
 
@@ -197,7 +197,7 @@ merged_cover os t u d c a (b ∷ bs) x y r p =
 
 -- the first keeps its left side, and so the apartness holds from one to the next
 start_of : (os : List Bounds) (t u : ℤ) → t <ℤ u → IsClean os t u → (z a : Strip) (bs : List Strip) → IsPart os t u a → AreParts os t u bs → IsRising a bs
-    → IsApart z a → IsApartFrom z (merged_from a bs)
+    → AreApartInSlab z a → IsApartFrom z (merged_from a bs)
 unfolding AreParts IsRising IsApartFrom
 start_of os t u d c z a [] x y r h = (h, tt)
 start_of os t u d c z a (b ∷ bs) x y r h =

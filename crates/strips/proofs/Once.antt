@@ -3,10 +3,10 @@ use Rattle.std.proofs.Common.{◌≡◌, subst, refl, sym, ◌∙◌, ap, ℕ, z
 use Rattle.std.specs.Prelude.{ℤ, pos, ◌+ℤ◌, ◌-ℤ◌, ◌*ℤ◌, ◌≤ℤ◌, ◌<ℤ◌, Any, All, AllPairs, Contains}
 use Rattle.std.proofs.lemmas.Int.{ints, by_lt_z}
 use Rattle.plane.specs.Plane.{PlanePoint, Bounds}
-use Rattle.plane.proofs.Times.{mul_le, mul_lt, mul_add}
+use Rattle.grid_num.proofs.Products.{mul_le, mul_lt, mul_add}
 use Rattle.plane.proofs.Points.{mul_mul}
 use Rattle.strips.specs.declared.Strip.{Strip}
-use Rattle.strips.specs.Strips.{IsInStrip, IsCut, IsSlab, IsSloped, IsTrapezoid, IsBefore, IsBetweenRows, AreStrips}
+use Rattle.strips.specs.Strips.{IsInStrip, IsCutRow, IsSlab, IsSloped, IsTrapezoid, IsStripBefore, IsBetweenRows, AreStrips}
 use Rattle.strips.specs.Laws.{OnceLaw}
 use Rattle.strips.proofs.Slab.{IsRun, IsAt, IsLeftAt, IsRightAt, line_at, line_le, sloped_times, strip_between, between_strip, sides}
 
@@ -54,7 +54,7 @@ line_less t u y l le v m me w h1 h2 a b g1 g2 g3 = omega (arith, ints)
 
 -- ---- two strips of one list
 abbrev Related : Strip → Strip → Type 0
-Related a b = (a ≡ b) ⊎ (IsBefore a b ⊎ IsBefore b a)
+Related a b = (a ≡ b) ⊎ (IsStripBefore a b ⊎ IsStripBefore b a)
 
 default : {X : Type 0} (xs : List X) (k : ℕ) (d x : X) → k < length xs → get_or xs k x ≡ x → get_or xs k d ≡ x
 default [] k d x l e = absurd (omega (arith, l))
@@ -67,7 +67,7 @@ three zero (suc j) = inl (omega arith)
 three (suc i) zero = inr (inl (omega arith))
 three (suc i) (suc j) = elim (three i j) [ inl l ↦ inl (omega (arith, l)) | inr m ↦ elim m [ inl l ↦ inr (inl (omega (arith, l))) | inr e ↦ inr (inr (ap suc e)) ] ]
 
-related : (ss : List Strip) → AllPairs IsBefore ss → (a b : Strip) → Contains ss a → Contains ss b → Related a b
+related : (ss : List Strip) → AllPairs IsStripBefore ss → (a b : Strip) → Contains ss a → Contains ss b → Related a b
 related ss h a b c d =
     elim (three c.0 d.0) [
       | inl l ↦ inr (inl (both a b (h c.0 d.0 a l d.1) c.2 (default ss d.0 a b d.1 d.2)))
@@ -77,8 +77,8 @@ related ss h a b c d =
       ]
     ]
   where
-    both : {x y : Strip} (v w : Strip) → IsBefore x y → x ≡ v → y ≡ w → IsBefore v w
-    both {x} {y} v w f e g = subst (λ z. IsBefore v z) g (subst (λ z. IsBefore z y) e f)
+    both : {x y : Strip} (v w : Strip) → IsStripBefore x y → x ≡ v → y ≡ w → IsStripBefore v w
+    both {x} {y} v w f e g = subst (λ z. IsStripBefore v z) g (subst (λ z. IsStripBefore z y) e f)
 
 -- no strip is just on the left of r in a row strictly between
 left_gap : (r q : Strip) (p : PlanePoint) (v : ℤ) → IsTrapezoid r → IsTrapezoid q → IsBetweenRows r.top r.bottom p → IsLeftAt r p v → Related r q
@@ -368,7 +368,7 @@ same_strip os ss ts s r h m n =
 
 -- ---- each strip of the one list is in the other
 -- a cut is not strictly between the rows of a slab
-aside : (os : List Bounds) (t u r : ℤ) → IsSlab os t u → IsCut os r → (r ≤ℤ t) ⊎ (u ≤ℤ r)
+aside : (os : List Bounds) (t u r : ℤ) → IsSlab os t u → IsCutRow os r → (r ≤ℤ t) ⊎ (u ≤ℤ r)
 aside os t u r f c =
     by_lt_z {P = (r ≤ℤ t) ⊎ (u ≤ℤ r)} t r
     (λ l. by_lt_z {P = (r ≤ℤ t) ⊎ (u ≤ℤ r)} r u (λ m. absurd (f.clean r l m c)) (λ m. inr m))
@@ -446,7 +446,7 @@ in_other os ss ts s f g c =
     subst (Contains ts) (sym (at_centre os ss ts s j.1 f g c d j.4)) d
 
 -- ---- two lists in order, with the same strips
-asymmetric : (a b : Strip) → IsTrapezoid a → IsTrapezoid b → IsBefore a b → IsBefore b a → ⊥
+asymmetric : (a b : Strip) → IsTrapezoid a → IsTrapezoid b → IsStripBefore a b → IsStripBefore b a → ⊥
 asymmetric a b f g (inl h) (inl k) = let x = f.down in let y = g.down in omega (arith, ints, h, k, x, y)
 asymmetric a b f g (inl h) (inr k) = let x = f.down in let e = k.0 in omega (arith, ints, h, x, e)
 asymmetric a b f g (inr h) (inl k) = let y = g.down in let e = h.0 in omega (arith, ints, k, y, e)
@@ -472,10 +472,10 @@ cons_head y ys = (zero, omega arith, refl)
 cons_tail : (y : Strip) (ys : List Strip) (x : Strip) → Contains ys x → Contains (y ∷ ys) x
 cons_tail y ys x c = (suc c.0, (let l = c.1 in omega (arith, l)), c.2)
 
-first_before : (y : Strip) (ys : List Strip) (x : Strip) → AllPairs IsBefore (y ∷ ys) → Contains ys x → IsBefore y x
-first_before y ys x h c = subst (IsBefore y) c.2 (h zero (suc c.0) x (omega arith) (let l = c.1 in omega (arith, l)))
+first_before : (y : Strip) (ys : List Strip) (x : Strip) → AllPairs IsStripBefore (y ∷ ys) → Contains ys x → IsStripBefore y x
+first_before y ys x h c = subst (IsStripBefore y) c.2 (h zero (suc c.0) x (omega arith) (let l = c.1 in omega (arith, l)))
 
-tail_order : (y : Strip) (ys : List Strip) → AllPairs IsBefore (y ∷ ys) → AllPairs IsBefore ys
+tail_order : (y : Strip) (ys : List Strip) → AllPairs IsStripBefore (y ∷ ys) → AllPairs IsStripBefore ys
 tail_order y ys h i j d l m = h (suc i) (suc j) d (omega (arith, l)) (omega (arith, m))
 
 tail_shapes : (y : Strip) (ys : List Strip) → All IsTrapezoid (y ∷ ys) → All IsTrapezoid ys
@@ -483,14 +483,14 @@ tail_shapes y ys h k d l = h (suc k) d (omega (arith, l))
 
 record IsInOrder (ss : List Strip) : Type 0 where
   shapes : All IsTrapezoid ss
-  order : AllPairs IsBefore ss
+  order : AllPairs IsStripBefore ss
 
 -- an element of the rest of the one list is one of the rest of the other, since the first is before it
 rest_in : (s : Strip) (ss ts : List Strip) (x : Strip) → IsInOrder (s ∷ ss) → Contains ss x → Contains (s ∷ ts) x → Contains ts x
 rest_in s ss ts x h c d =
     elim (cons_cases s ts x d) [
       | inl e ↦ absurd (
-          let b = subst (IsBefore s) e (first_before s ss x h.order c) in
+          let b = subst (IsStripBefore s) e (first_before s ss x h.order c) in
           let f = holds IsTrapezoid (s ∷ ss) s h.shapes (cons_head s ss) in
           asymmetric s s f f b b)
       | inr i ↦ i

@@ -4,13 +4,13 @@ use Rattle.std.specs.Prelude.{ℤ, ◌≤ℤ◌, ◌<ℤ◌}
 use Rattle.std.proofs.lemmas.Int.{ints}
 use Rattle.plane.specs.Plane.{Bounds}
 use Rattle.strips.specs.declared.Strip.{Strip}
-use Rattle.strips.specs.Strips.{IsTrapezoid, IsApart, IsBefore}
+use Rattle.strips.specs.Strips.{IsTrapezoid, AreApartInSlab, IsStripBefore}
 use Rattle.strips.proofs.Slab.{IsRun}
-use Rattle.strips.specs.Merge.{merged}
+use Rattle.strips.specs.Inner.Merge.{merged}
 use Rattle.strips.proofs.Lines.{IsClean}
 use Rattle.strips.proofs.Merge.{IsPart, AreParts, IsApartFrom, AreApart, merged_apart, merged_parts}
 use Rattle.strips.proofs.Slabs.{ArePieces}
-use Rattle.strips.specs.Sweep.{AreSlabStrips, AreSheetStrips}
+use Rattle.strips.specs.Inner.Sweep.{AreSlabStrips, AreSheetStrips}
 use Rattle.strips.proofs.Whole.{slab_in_parts, from_left, sorted_rising, AreSorted, AreRows}
 
 -- each strip has its top above its bottom, and its sides in order
@@ -23,20 +23,20 @@ AreSound (s ∷ ss) = IsSound s × AreSound ss
 
 unfoldable pub IsBeforeAll : Strip → List Strip → Type 0
 IsBeforeAll a [] = Unit {0}
-IsBeforeAll a (b ∷ bs) = IsBefore a b × IsBeforeAll a bs
+IsBeforeAll a (b ∷ bs) = IsStripBefore a b × IsBeforeAll a bs
 
 unfoldable pub AreInOrder : List Strip → Type 0
 AreInOrder [] = Unit {0}
 AreInOrder (s ∷ ss) = IsBeforeAll s ss × AreInOrder ss
 
 -- ---- one slab
-apart_trans : (a b c : Strip) → IsRun b → IsApart a b → IsApart b c → IsApart a c
+apart_trans : (a b c : Strip) → IsRun b → AreApartInSlab a b → AreApartInSlab b c → AreApartInSlab a c
 apart_trans a b c r f g = let s = r.start in let e = r.finish in record { start = omega (arith, ints, f.start, g.start, s); finish = omega (arith, ints, f.finish, g.finish, e); gap = omega (arith, ints, f.start, f.finish, f.gap, g.gap, s, e) }
 
-before_part : (os : List Bounds) (t u : ℤ) (a b : Strip) → IsPart os t u a → IsPart os t u b → IsApart a b → IsBefore a b
+before_part : (os : List Bounds) (t u : ℤ) (a b : Strip) → IsPart os t u a → IsPart os t u b → AreApartInSlab a b → IsStripBefore a b
 before_part os t u a b x y h = inr (x.top ∙ sym y.top, x.bottom ∙ sym y.bottom, h)
 
-before_all : (os : List Bounds) (t u : ℤ) (a b : Strip) (bs : List Strip) → IsPart os t u a → IsPart os t u b → AreParts os t u bs → IsApart a b → IsApartFrom b bs → IsBeforeAll a bs
+before_all : (os : List Bounds) (t u : ℤ) (a b : Strip) (bs : List Strip) → IsPart os t u a → IsPart os t u b → AreParts os t u bs → AreApartInSlab a b → IsApartFrom b bs → IsBeforeAll a bs
 unfolding AreParts IsApartFrom IsBeforeAll
 before_all os t u a b [] x y z f g = tt
 before_all os t u a b (c ∷ cs) x y z f g =

@@ -6,8 +6,8 @@ use Rattle.std.proofs.lemmas.List.Elements.{All-cons, All-nil}
 use Rattle.std.proofs.lemmas.List.Kept.{AllPairs-cons}
 use Rattle.plane.specs.Plane.{PlanePoint, Bounds}
 use Rattle.strips.specs.declared.Strip.{Strip}
-use Rattle.strips.specs.Strips.{IsCut, IsSlab, IsTrapezoid, IsBefore, IsPlate}
-use Rattle.strips.specs.Sweep.{AreSheetStrips, AreCutRows}
+use Rattle.strips.specs.Strips.{IsCutRow, IsSlab, IsTrapezoid, IsStripBefore, IsPlate}
+use Rattle.strips.specs.Inner.Sweep.{AreSheetStrips, AreCutRows}
 use Rattle.strips.specs.Laws.{SweepLaw}
 use Rattle.strips.proofs.Cuts.{IsCutAt, cut_of, cut_at}
 use Rattle.strips.proofs.Lines.{IsDoubled, times_doubled, clean_from, clean_is, cut_top, cut_bottom}
@@ -120,10 +120,10 @@ unfolding AreInSlabs
 slabs_append os [] ys f g = g
 slabs_append os (x ∷ xs) ys f g = (f.0, slabs_append os xs ys f.1 g)
 
-all_cut : (os : List Bounds) (t : ℤ) (rs : List ℤ) → All (λ r. IsCut os r) (t ∷ rs) → IsCut os t × All (λ r. IsCut os r) rs
+all_cut : (os : List Bounds) (t : ℤ) (rs : List ℤ) → All (λ r. IsCutRow os r) (t ∷ rs) → IsCutRow os t × All (λ r. IsCutRow os r) rs
 all_cut os t rs h = (h 0 t (omega arith), λ k d l. h (suc k) d (omega (arith, l)))
 
-sheet_slabs : (os : List Bounds) (rs : List ℤ) (ss : List Strip) → ArePieces os os → All (λ r. IsCut os r) rs → AreRows os rs → AreSheetStrips os rs ss → AreInSlabs os ss
+sheet_slabs : (os : List Bounds) (rs : List ℤ) (ss : List Strip) → ArePieces os os → All (λ r. IsCutRow os r) rs → AreRows os rs → AreSheetStrips os rs ss → AreInSlabs os ss
 unfolding AreRows AreSheetStrips AreInSlabs
 sheet_slabs os [] ss k c r h = subst (AreInSlabs os) (sym h) tt
 sheet_slabs os (t ∷ []) ss k c r h = subst (AreInSlabs os) (sym h) tt
@@ -145,15 +145,15 @@ unfolding AreSound
 all_sound [] h = All-nil (λ s. IsTrapezoid s)
 all_sound (s ∷ ss) h = All-cons (λ s. IsTrapezoid s) s ss h.0 (all_sound ss h.1)
 
-all_before : (a : Strip) (ss : List Strip) → IsBeforeAll a ss → All (λ s. IsBefore a s) ss
+all_before : (a : Strip) (ss : List Strip) → IsBeforeAll a ss → All (λ s. IsStripBefore a s) ss
 unfolding IsBeforeAll
-all_before a [] h = All-nil (λ s. IsBefore a s)
-all_before a (s ∷ ss) h = All-cons (λ s. IsBefore a s) s ss h.0 (all_before a ss h.1)
+all_before a [] h = All-nil (λ s. IsStripBefore a s)
+all_before a (s ∷ ss) h = All-cons (λ s. IsStripBefore a s) s ss h.0 (all_before a ss h.1)
 
-all_order : (ss : List Strip) → AreInOrder ss → AllPairs IsBefore ss
+all_order : (ss : List Strip) → AreInOrder ss → AllPairs IsStripBefore ss
 unfolding AreInOrder
 all_order [] h = λ i j d l m. absurd (omega (arith, m))
-all_order (s ∷ ss) h = AllPairs-cons IsBefore s ss (all_before s ss h.0) (all_order ss h.1)
+all_order (s ∷ ss) h = AllPairs-cons IsStripBefore s ss (all_before s ss h.0) (all_order ss h.1)
 
 good : (os : List Bounds) (rs : List ℤ) (ss : List Strip) → ArePieces os os → AreRows os rs → AreSheetStrips os rs ss → AreSound ss × AreInOrder ss
 unfolding AreSheetStrips AreSound AreInOrder

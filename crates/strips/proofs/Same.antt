@@ -2,11 +2,11 @@
 use Rattle.std.proofs.Common.{List}
 use Rattle.std.specs.Prelude.{ℤ, ◌↔◌, Any, Contains}
 use Rattle.plane.specs.Plane.{PlanePoint, Bounds, In}
-use Rattle.strips.specs.Strips.{IsCut, IsSlab}
-use Rattle.strips.specs.Laws.{SameLaw}
+use Rattle.strips.specs.Strips.{IsCutRow, IsSlab}
+use Rattle.strips.specs.Laws.{SameOctsLaw}
 
-cut_moved : (os qs : List Bounds) (r : ℤ) → ((b : Bounds) → Contains os b → Contains qs b) → IsCut os r → IsCut qs r
-unfolding IsCut
+cut_moved : (os qs : List Bounds) (r : ℤ) → ((b : Bounds) → Contains os b → Contains qs b) → IsCutRow os r → IsCutRow qs r
+unfolding IsCutRow
 cut_moved os qs r f c = (c.0, c.1, f c.0 c.2, f c.1 c.3, c.4, c.5, c.6)
 
 slab_moved : (os qs : List Bounds) (t u : ℤ) → ((b : Bounds) → Contains os b ↔ Contains qs b) → IsSlab os t u → IsSlab qs t u
@@ -23,7 +23,7 @@ turned os qs f b = ((f b).1, (f b).0)
 in_moved : (os qs : List Bounds) (p : PlanePoint) → ((b : Bounds) → Contains os b → Contains qs b) → Any (λ b. In b p) os → Any (λ b. In b p) qs
 in_moved os qs p f i = let w = f i.1 (i.0, i.2, i.3) in (w.0, i.1, w.1, w.2, i.4)
 
-pub same_law : SameLaw
+pub same_law : SameOctsLaw
 same_law os qs ss f h = (
   record {
     slabs = λ k d l. slab_moved os qs _ _ f (h.slabs k d l);

@@ -3,8 +3,9 @@ use Rattle.std.proofs.Common.{◌≡◌, refl, ◌∙◌, ap, ℕ, ◌⊎◌, �
 use Rattle.std.specs.Prelude.{ℤ, pos, ◌+ℤ◌, ◌-ℤ◌, ◌*ℤ◌, ◌≤ℤ◌, ◌<ℤ◌, ◌↔◌}
 use Rattle.std.proofs.lemmas.Int.{ints, by_lt_z}
 use Rattle.plane.specs.Plane.{PlanePoint, Bounds, Within, times, In, IsTight}
-use Rattle.plane.proofs.Times.{mul_le, mul_add, mul_sub, mul_lt, IsTight-times}
-use Rattle.covering.proofs.Counts.{level_run, rise_run, fall_run, scale_less}
+use Rattle.grid_num.proofs.Products.{mul_le, mul_add, mul_sub, mul_lt}
+use Rattle.plane.proofs.Times.{IsTight-times}
+use Rattle.plane.proofs.Counts.{level_run, rise_run, fall_run, scale_less}
 use Rattle.strips.specs.declared.Strip.{Strip}
 use Rattle.strips.specs.Strips.{IsInStrip, IsSloped}
 

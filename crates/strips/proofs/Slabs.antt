@@ -3,10 +3,10 @@ use Rattle.std.proofs.Common.{refl, inl, inr, arith, List, [], ◌∷◌}
 use Rattle.std.specs.Prelude.{ℤ, pos, ◌+ℤ◌, ◌-ℤ◌, ◌*ℤ◌, ◌≤ℤ◌, ◌<ℤ◌, Contains, Any, int_lt, if◌then◌else◌}
 use Rattle.std.proofs.lemmas.Int.{ints, by_lt_z}
 use Rattle.plane.specs.Plane.{PlanePoint, Bounds, In, IsTight}
-use Rattle.covering.proofs.Lists.{any_none, any_head, any_tail, any_cases}
-use Rattle.covering.proofs.Counts.{less_true, less_false}
+use Rattle.plane.proofs.Lists.{any_none, any_head, any_tail, any_cases}
+use Rattle.plane.proofs.Counts.{less_true, less_false}
 use Rattle.strips.specs.Strips.{IsStout, IsInStrip}
-use Rattle.strips.specs.Runs.{greatest, least, run_at, Reaches, runs_of}
+use Rattle.strips.specs.Inner.Runs.{greatest, least, run_at, ReachesAcross, runs_of}
 use Rattle.strips.proofs.Slab.{IsMost, IsFewest, IsRunOf, run_law, run_IsRun}
 use Rattle.strips.proofs.Lines.{IsClean, IsDoubled, across, left_line, right_line, run_wide}
 use Rattle.strips.proofs.Merge.{IsPart, AreParts}
@@ -61,7 +61,7 @@ piece_part os t u b d c k h1 h2 =
 -- a list of octagons that all reach across
 unfoldable pub AllReach : List Bounds → ℤ → ℤ → Type 0
 AllReach [] t u = Unit {0}
-AllReach (b ∷ bs) t u = Reaches b t u × AllReach bs t u
+AllReach (b ∷ bs) t u = ReachesAcross b t u × AllReach bs t u
 
 pub runs_parts : (os bs : List Bounds) (t u : ℤ) → t <ℤ u → IsClean os t u → ArePieces os bs → AllReach bs t u → AreParts os t u (runs_of bs t u)
 unfolding ArePieces AreParts AllReach

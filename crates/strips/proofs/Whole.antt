@@ -6,14 +6,14 @@ use native.Mathlib.Numerals.{unary_clauses}
 use Rattle.std.proofs.lemmas.Int.{ints, by_lt_z}
 use Rattle.std.proofs.lemmas.List.Sorted.{All-permutation, IsPermutation-sym}
 use Rattle.plane.specs.Plane.{PlanePoint, Bounds, In}
-use Rattle.plane.proofs.Times.{mul_lt_back}
-use Rattle.covering.proofs.Lists.{any_none, any_head, any_tail, any_cases, any_left, any_right, any_parts}
-use Rattle.covering.proofs.Laws.{any_permutation}
+use Rattle.grid_num.proofs.Products.{mul_lt_back}
+use Rattle.plane.proofs.Lists.{any_none, any_head, any_tail, any_cases, any_left, any_right, any_parts}
+use Rattle.plane.proofs.CoverLaws.{any_permutation}
 use Rattle.strips.specs.declared.Strip.{Strip}
 use Rattle.strips.specs.Strips.{IsInStrip}
-use Rattle.strips.specs.Runs.{Reaches, runs_of}
-use Rattle.strips.specs.Merge.{merged}
-use Rattle.strips.specs.Sweep.{AreFromLeft, AreSlabStrips, AreSheetStrips}
+use Rattle.strips.specs.Inner.Runs.{ReachesAcross, runs_of}
+use Rattle.strips.specs.Inner.Merge.{merged}
+use Rattle.strips.specs.Inner.Sweep.{AreFromLeft, AreSlabStrips, AreSheetStrips}
 use Rattle.strips.proofs.Lines.{IsClean}
 use Rattle.strips.proofs.Merge.{IsPart, AreParts, IsRising, joins, merged_cover}
 use Rattle.strips.proofs.Slabs.{IsPiece, ArePieces, AllReach, runs_parts, runs_in, in_runs}
@@ -94,7 +94,7 @@ slab_reach : (os : List Bounds) (t u : ℤ) (ss : List Strip) → (h : AreSlabSt
 unfolding AllReach
 slab_reach os t u ss h = go h.octs (h.reaching).each
   where
-    go : (bs : List Bounds) → All (λ b. Contains os b × Reaches b t u) bs → AllReach bs t u
+    go : (bs : List Bounds) → All (λ b. Contains os b × ReachesAcross b t u) bs → AllReach bs t u
     go [] f = tt
     go (b ∷ bs) f = ((f 0 b (omega arith)).1, go bs (λ i d l. f (suc i) d (omega arith)))
 
@@ -113,10 +113,10 @@ slab_in os t u ss p d c k h i =
     contained os bs b f e = subst (Contains os) e.2 (f e.0 b e.1)
 
 in_slab : (os : List Bounds) (t u : ℤ) (ss : List Strip) (p : PlanePoint) → t <ℤ u → IsClean os t u → ArePieces os os → AreSlabStrips os t u ss
-    → (pos p.scale *ℤ t) ≤ℤ p.y → p.y ≤ℤ (pos p.scale *ℤ u) → Any (λ b. In b p × Reaches b t u) os → SomeIn p ss
+    → (pos p.scale *ℤ t) ≤ℤ p.y → p.y ≤ℤ (pos p.scale *ℤ u) → Any (λ b. In b p × ReachesAcross b t u) os → SomeIn p ss
 in_slab os t u ss p d c k h h1 h2 i =
     let m = merged_same os t u p d c h.runs (slab_in_parts os t u ss d c k h) (from_left h.runs h.sorted) in
-    let j = move (λ b. In b p × Reaches b t u) (λ b. In b p) os h.octs (λ b e q. ((h.reaching).all b e q.1, q.0)) i in
+    let j = move (λ b. In b p × ReachesAcross b t u) (λ b. In b p) os h.octs (λ b e q. ((h.reaching).all b e q.1, q.0)) i in
     subst (SomeIn p) (sym h.is)
     (m.1 (any_permutation (λ s. IsInStrip s p) (runs_of h.octs t u) h.runs h.order (in_runs os h.octs t u p d c (slab_pieces os t u ss k h) (slab_reach os t u ss h) h1 h2 j)))
 
@@ -151,7 +151,7 @@ row_below os t (u ∷ rs) r a (inr h) = let d = a.0 in let l = row_below os u rs
 -- an octagon's point is in the strips of one of the slabs that the octagon reaches across
 in_sheet : (os : List Bounds) (rs : List ℤ) (ss : List Strip) (p : PlanePoint) (low high : ℤ) → ArePieces os os → AreRows os rs → AreSheetStrips os rs ss
     → IsRowOf rs low → IsRowOf rs high → low <ℤ high → (pos p.scale *ℤ low) ≤ℤ p.y → p.y ≤ℤ (pos p.scale *ℤ high)
-    → ((t u : ℤ) → low ≤ℤ t → u ≤ℤ high → Any (λ b. In b p × Reaches b t u) os) → SomeIn p ss
+    → ((t u : ℤ) → low ≤ℤ t → u ≤ℤ high → Any (λ b. In b p × ReachesAcross b t u) os) → SomeIn p ss
 unfolding AreRows AreSheetStrips IsRowOf
 in_sheet os [] ss p low high k r h x y d h1 h2 f = absurd x
 in_sheet os (t ∷ []) ss p low high k r h (inl x) (inl y) d h1 h2 f = absurd (omega (arith, ints, x, y, d))

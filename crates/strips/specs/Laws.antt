@@ -3,16 +3,16 @@ use Rattle.std.specs.Prelude.{◌≡◌, List, ℤ, pos, ◌*ℤ◌, ◌↔◌, 
 use Rattle.plane.specs.Plane.{PlanePoint, Bounds, IsTight, times}
 use Rattle.strips.specs.declared.Strip.{Strip}
 use Rattle.strips.specs.Strips.{HasInside, IsStout, IsCrossing, IsPlate, AreStrips, AreCovering}
-use Rattle.strips.specs.Sweep.{AreCutRows, AreSheetStrips}
+use Rattle.strips.specs.Inner.Sweep.{AreCutRows, AreSheetStrips}
 
 -- p has whole coordinates
-pub record IsWhole (p : PlanePoint) : Type 0 where
+pub record IsWholePoint (p : PlanePoint) : Type 0 where
   pub x : (u : ℤ) × (p.x ≡ pos p.scale *ℤ u)
   pub y : (v : ℤ) × (p.y ≡ pos p.scale *ℤ v)
 
 -- the crossings of octagons of the grid are at whole nanometres
-abbrev pub WholeLaw : Type 0
-WholeLaw = (a b : Bounds) (p : PlanePoint) → IsCrossing (times 2 a) (times 2 b) p → IsWhole p
+abbrev pub WholeCrossingLaw : Type 0
+WholeCrossingLaw = (a b : Bounds) (p : PlanePoint) → IsCrossing (times 2 a) (times 2 b) p → IsWholePoint p
 
 -- a sweep over the rows that cut, from the top, gives the strips, and they cover exactly the union
 abbrev pub SweepLaw : Type 0
@@ -21,8 +21,8 @@ SweepLaw =
     → AreStrips os ss × AreCovering os ss
 
 -- neither the order of the octagons nor an octagon that stands twice matters
-abbrev pub SameLaw : Type 0
-SameLaw =
+abbrev pub SameOctsLaw : Type 0
+SameOctsLaw =
     (os qs : List Bounds) (ss : List Strip) → ((b : Bounds) → Contains os b ↔ Contains qs b) → AreStrips os ss
     → AreStrips qs ss × (AreCovering os ss → AreCovering qs ss)
 

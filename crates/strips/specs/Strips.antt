@@ -53,15 +53,15 @@ unfoldable pub IsCrossing : Bounds → Bounds → PlanePoint → Type 0
 IsCrossing a b p = (i : Direction) × (j : Direction) × (i ≡ j → ⊥) × IsOnSide a i p × IsOnSide b j p
 
 -- the row r cuts the plane: a corner of one of the octagons or a crossing of two of them is in it
-unfoldable pub IsCut : List Bounds → ℤ → Type 0
-IsCut os r = (a : Bounds) × (b : Bounds) × Contains os a × Contains os b × (p : PlanePoint) × IsCrossing a b p × (p.y ≡ pos p.scale *ℤ r)
+unfoldable pub IsCutRow : List Bounds → ℤ → Type 0
+IsCutRow os r = (a : Bounds) × (b : Bounds) × Contains os a × Contains os b × (p : PlanePoint) × IsCrossing a b p × (p.y ≡ pos p.scale *ℤ r)
 
 -- the rows t and u are neighbours among those that cut
 pub record IsSlab (os : List Bounds) (t u : ℤ) : Type 0 where
-  pub top : IsCut os t
-  pub bottom : IsCut os u
+  pub top : IsCutRow os t
+  pub bottom : IsCutRow os u
   pub down : t <ℤ u
-  pub clean : (r : ℤ) → t <ℤ r → r <ℤ u → IsCut os r → ⊥
+  pub clean : (r : ℤ) → t <ℤ r → r <ℤ u → IsCutRow os r → ⊥
 
 -- a side goes from l in the row t to e in the row u: upright, rising or falling
 abbrev pub IsSloped : ℤ → ℤ → ℤ → ℤ → Type 0
@@ -77,14 +77,14 @@ pub record IsTrapezoid (s : Strip) : Type 0 where
   pub wide : (s.left +ℤ s.left_end) <ℤ (s.right +ℤ s.right_end)
 
 -- a is on the left of b, and strictly between their rows there is a gap between the two, though they may share a corner
-pub record IsApart (a b : Strip) : Type 0 where
+pub record AreApartInSlab (a b : Strip) : Type 0 where
   pub start : a.right ≤ℤ b.left
   pub finish : a.right_end ≤ℤ b.left_end
   pub gap : (a.right +ℤ a.right_end) <ℤ (b.left +ℤ b.left_end)
 
 -- by top, and between the same two rows from left to right
-abbrev pub IsBefore : Strip → Strip → Type 0
-IsBefore a b = (a.bottom ≤ℤ b.top) ⊎ ((a.top ≡ b.top) × (a.bottom ≡ b.bottom) × IsApart a b)
+abbrev pub IsStripBefore : Strip → Strip → Type 0
+IsStripBefore a b = (a.bottom ≤ℤ b.top) ⊎ ((a.top ≡ b.top) × (a.bottom ≡ b.bottom) × AreApartInSlab a b)
 
 -- p is strictly between the rows t and u
 pub record IsBetweenRows (t u : ℤ) (p : PlanePoint) : Type 0 where
@@ -97,7 +97,7 @@ pub record IsBetweenRows (t u : ℤ) (p : PlanePoint) : Type 0 where
 pub record AreStrips (os : List Bounds) (ss : List Strip) : Type 0 where
   pub slabs : All (λ s. IsSlab os s.top s.bottom) ss
   pub shapes : All (λ s. IsTrapezoid s) ss
-  pub order : AllPairs IsBefore ss
+  pub order : AllPairs IsStripBefore ss
   pub runs : (t u : ℤ) (p : PlanePoint) → IsSlab os t u → IsBetweenRows t u p → Any (λ s. IsInStrip s p) ss ↔ Any (λ b. In b p) os
 
 -- the strips cover exactly the union: every point, also along the rows

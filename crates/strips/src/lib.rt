@@ -3,7 +3,7 @@
 //! A coordinate is a nanometre; octagons are given in nanometres too, so all their bounds are even.
 #![tactic(auto)]
 
-ghost use Rattle.strips.specs.Laws.{WholeLaw, SweepLaw, SameLaw, InsideLaw, OnceLaw};
+ghost use Rattle.strips.specs.Laws.{WholeCrossingLaw, SweepLaw, SameOctsLaw, InsideLaw, OnceLaw};
 
 /// A closed trapezoid between two rows, by the ends of its left and its right side: nanometres, x to the right, y downward.
 #[derive(Clone, Copy, PartialEq, Eq, Debug)]
@@ -24,7 +24,7 @@ pub struct Strip {
 
 /// Where sides of two octagons cross, the point has whole coordinates in nanometres.
 pub fn whole_law()
-    ensures { WholeLaw }
+    ensures { WholeCrossingLaw }
 {}
 
 /// A sweep over the rows that cut gives the strips, and they cover exactly the union.
@@ -34,7 +34,7 @@ pub fn sweep_law()
 
 /// Neither the order of the octagons nor an octagon that stands twice matters.
 pub fn same_law()
-    ensures { SameLaw }
+    ensures { SameOctsLaw }
 {}
 
 /// A tight octagon has points strictly inside exactly where no two opposite sides lie on each other.

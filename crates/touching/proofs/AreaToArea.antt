@@ -3,12 +3,12 @@ use Rattle.std.proofs.Common.{◌≡◌, ℕ, ◌*◌, arith, ap, sym, subst, �
 use Rattle.std.specs.Prelude.{ℤ, pos, neg_ℤ, ◌+ℤ◌, ◌-ℤ◌, ◌*ℤ◌}
 use Rattle.std.proofs.lemmas.Int.{ints}
 use Rattle.touching.specs.Core.{area, InCore}
-use Rattle.touching.specs.Decision.{IsOriginClose, steps_of}
+use Rattle.touching.specs.Inner.Decision.{IsOriginClose, steps_of}
 use Rattle.touching.proofs.Short.{IsShort, rescaled}
 use Rattle.touching.proofs.Pairs.{Pair, pair_of}
 use Rattle.touching.proofs.Origin.{Found, origin_test, test_origin}
 use Rattle.plane.specs.Plane.{Bounds, PlanePoint, Within, In, IsTight, times, plus, IsSame, sum_of, IsInSum}
-use Rattle.plane.proofs.Times.{mul_add, mul_sub, mul_neg}
+use Rattle.grid_num.proofs.Products.{mul_add, mul_sub, mul_neg}
 use Rattle.plane.proofs.Near.{turned, opposite, IsTight-sum}
 use Rattle.plane.proofs.Points.{In-IsInSum}
 

@@ -4,7 +4,7 @@ use Rattle.std.specs.Prelude.{ℤ, pos, ◌+ℤ◌, ◌-ℤ◌, ◌*ℤ◌}
 use Rattle.std.proofs.lemmas.Int.{ints}
 use lib.IntN.{zero-*ℤ}
 use Rattle.touching.specs.Core.{Core, Spot, area, line, OnLine, InCore}
-use Rattle.touching.specs.Decision.{start_of, end_of, IsAreaClose}
+use Rattle.touching.specs.Inner.Decision.{start_of, end_of, IsAreaClose}
 use Rattle.touching.proofs.Ring.{weigh}
 use Rattle.touching.proofs.Short.{IsShort, shrunk, as_short}
 use Rattle.touching.proofs.Leave.{Leaves, leave}
@@ -12,7 +12,7 @@ use Rattle.touching.proofs.Pairs.{Pair, InCore-same}
 use Rattle.touching.proofs.Sides.{side_in, on_side}
 use Rattle.touching.proofs.LineToLine.{lines_close, close_lines}
 use Rattle.plane.specs.Plane.{PlanePoint, Bounds, In, Within, IsTight, grid_point, positive_product}
-use Rattle.plane.proofs.Times.{mul_add, mul_sub}
+use Rattle.grid_num.proofs.Products.{mul_add, mul_sub}
 use Rattle.plane.proofs.Points.{mul_mul, mul_swap}
 
 -- the point that both have, as a pair

@@ -1,8 +1,8 @@
 -- The decision for every pair of cores.
 use Rattle.std.proofs.Common.{ℕ, ◌*◌}
 use Rattle.touching.specs.Core.{Core, area, line, IsWhole, Touches}
-use Rattle.touching.specs.Decision.{AreClose}
-use Rattle.touching.specs.Laws.{DecisionLaw, OrderLaw}
+use Rattle.touching.specs.Inner.Decision.{AreClose}
+use Rattle.touching.specs.Laws.{DecisionLaw, TouchingOrderLaw}
 use Rattle.touching.proofs.Pairs.{Pair, touches_pair, pair_touches, pair_turned}
 use Rattle.touching.proofs.LineToLine.{lines_close, close_lines}
 use Rattle.touching.proofs.AreaToArea.{areas_close, close_areas}
@@ -25,7 +25,7 @@ found a (line s t) (line u v) g k h = close_lines a s t u v h
 pub decision_law : DecisionLaw
 decision_law r c d t u = (λ h. pair_touches r c d (found (r * r) c d t u h), λ h. decided (r * r) c d (touches_pair r c d h))
 
-pub order_law : OrderLaw
+pub order_law : TouchingOrderLaw
 order_law r c d = (turn r c d, turn r d c)
   where
     turn : (r : ℕ) (c d : Core) → Touches r c d → Touches r d c

@@ -5,7 +5,7 @@ use Rattle.std.specs.Prelude.{ℤ, pos, ◌+ℤ◌, ◌-ℤ◌, ◌*ℤ◌, ◌�
 use Rattle.std.proofs.lemmas.Int.{ints}
 use Rattle.std.proofs.Math.Nat.{mul-le-mul_right}
 use Rattle.touching.specs.Core.{Spot, Core, area, line, OnLine, InCore, IsWhole}
-use Rattle.touching.specs.Decision.{Side, top, top_right, right, bottom_right, bottom, bottom_left, left, top_left, start_of, end_of, IsPointClose}
+use Rattle.touching.specs.Inner.Decision.{Side, top, top_right, right, bottom_right, bottom, bottom_left, left, top_left, start_of, end_of, IsPointClose}
 use Rattle.touching.specs.Laws.{AreMeeting, HasSide, HasCorner, IsNoFarther, CornerIsNoFarther, LeastLaw}
 use Rattle.touching.proofs.Short.{IsShort, squares_are, scaled_square, as_short}
 use Rattle.touching.proofs.Pairs.{Pair, pair_of}
@@ -13,7 +13,8 @@ use Rattle.touching.proofs.PointToLine.{test_near}
 use Rattle.touching.proofs.LineToLine.{place, place_on, whole}
 use Rattle.touching.proofs.Nearest.{CornerNear, Nearest, nearest}
 use Rattle.plane.specs.Plane.{PlanePoint, Bounds, times, grid_point, minus, positive_product, scaled_dist_sq}
-use Rattle.plane.proofs.Times.{mul_le, mul_add, mul_sub, IsTight-times}
+use Rattle.grid_num.proofs.Products.{mul_le, mul_add, mul_sub}
+use Rattle.plane.proofs.Times.{IsTight-times}
 use Rattle.plane.proofs.Points.{mul_mul, mul_swap, within_times}
 
 abbrev spot_times : ℕ → Spot → Spot

@@ -5,7 +5,7 @@ use Rattle.std.proofs.lemmas.Int.{ints}
 use Rattle.touching.proofs.Ring.{blend}
 use Rattle.touching.proofs.Walk.{Slack, mean, Starts, Keeps, Hits, walk}
 use Rattle.plane.specs.Plane.{PlanePoint, Bounds, In}
-use Rattle.plane.proofs.Times.{mul_add, mul_sub, mul_le_back}
+use Rattle.grid_num.proofs.Products.{mul_add, mul_sub, mul_le_back}
 use lib.IntN.{zero-*ℤ}
 
 -- one of the bounds is attained at the point

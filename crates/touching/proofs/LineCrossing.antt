@@ -3,13 +3,12 @@ use Rattle.std.proofs.Common.{◌≡◌, refl, ℕ, zero, suc, ◌⊎◌, inl, i
 use Rattle.std.specs.Prelude.{ℤ, pos, negsuc, neg_ℤ, ◌+ℤ◌, ◌-ℤ◌, ◌*ℤ◌, ◌<ℤ◌}
 use Rattle.std.proofs.lemmas.Int.{ints, by_lt_z}
 use lib.IntN.{*ℤ_comm, zero-*ℤ}
-use Rattle.touching.specs.Decision.{inner, cross, IsSquare, IsCrossing}
+use Rattle.touching.specs.Inner.Decision.{inner, cross, IsSquare, AreLinesCrossing}
 use Rattle.touching.proofs.Ring.{assoc, times_diff, times_sum}
 use Rattle.touching.proofs.Short.{square_is, natural, as_short}
 use Rattle.touching.proofs.LineEnds.{AreNear, EndNear}
 use Rattle.touching.proofs.LineWalk.{run}
-use Rattle.plane.proofs.Times.{mul_add, mul_sub}
-use Rattle.plane.proofs.Near.{mul_neg}
+use Rattle.grid_num.proofs.Products.{mul_add, mul_sub, mul_neg}
 
 swap : (a b c : ℤ) → (a *ℤ b) *ℤ c ≡ (a *ℤ c) *ℤ b
 swap a b c = assoc a b c ∙ ap (λ (z : ℤ). a *ℤ z) (*ℤ_comm b c) ∙ sym (assoc a c b)
@@ -108,27 +107,27 @@ pub anti_times : (ax ay bx by z : ℤ) → cross ax ay bx by *ℤ z ≡ neg_ℤ 
 anti_times ax ay bx by z = ap (λ (c : ℤ). c *ℤ z) (anti ax ay bx by) ∙ neg_times (cross bx by ax ay) z
 
 -- segments within reach cross, or an end of one is within reach of the other
-pub segments : (r : ℕ) (wx wy vx vy yx yy : ℤ) → AreNear r wx wy vx vy yx yy → IsCrossing wx wy vx vy yx yy ⊎ EndNear r wx wy vx vy yx yy
-unfolding IsCrossing
+pub segments : (r : ℕ) (wx wy vx vy yx yy : ℤ) → AreNear r wx wy vx vy yx yy → AreLinesCrossing wx wy vx vy yx yy ⊎ EndNear r wx wy vx vy yx yy
+unfolding AreLinesCrossing
 segments r wx wy vx vy yx yy h =
-    by_lt_z {P = IsCrossing wx wy vx vy yx yy ⊎ EndNear r wx wy vx vy yx yy} (pos 0) (cross vx vy yx yy)
+    by_lt_z {P = AreLinesCrossing wx wy vx vy yx yy ⊎ EndNear r wx wy vx vy yx yy} (pos 0) (cross vx vy yx yy)
     (λ up. rising up)
-    (λ no. by_lt_z {P = IsCrossing wx wy vx vy yx yy ⊎ EndNear r wx wy vx vy yx yy} (cross vx vy yx yy) (pos 0)
+    (λ no. by_lt_z {P = AreLinesCrossing wx wy vx vy yx yy ⊎ EndNear r wx wy vx vy yx yy} (cross vx vy yx yy) (pos 0)
     (λ down. falling down)
     (λ on. inr (level (omega (arith, ints)))))
   where
-    rising : pos 0 <ℤ cross vx vy yx yy → IsCrossing wx wy vx vy yx yy ⊎ EndNear r wx wy vx vy yx yy
+    rising : pos 0 <ℤ cross vx vy yx yy → AreLinesCrossing wx wy vx vy yx yy ⊎ EndNear r wx wy vx vy yx yy
     rising up =
         let n = natural (cross vx vy yx yy) (omega (arith, ints)) in
-        ⊎_elim {C = IsCrossing wx wy vx vy yx yy ⊎ EndNear r wx wy vx vy yx yy} (λ z. inl (inl z)) (λ z. inr z)
+        ⊎_elim {C = AreLinesCrossing wx wy vx vy yx yy ⊎ EndNear r wx wy vx vy yx yy} (λ z. inl (inl z)) (λ z. inr z)
         (run r wx wy vx vy yx yy h (cross vx vy yx yy) (cross yx yy wx wy) (cross vx vy wx wy) n.0 n.1
         (cramer_x wx wy vx vy yx yy) (cramer_y wx wy vx vy yx yy) (λ a b c. omega (arith, ints)))
 
-    falling : cross vx vy yx yy <ℤ pos 0 → IsCrossing wx wy vx vy yx yy ⊎ EndNear r wx wy vx vy yx yy
+    falling : cross vx vy yx yy <ℤ pos 0 → AreLinesCrossing wx wy vx vy yx yy ⊎ EndNear r wx wy vx vy yx yy
     falling down =
         let up : pos 0 <ℤ cross yx yy vx vy = omega (arith, ints, anti vx vy yx yy) in
         let n = natural (cross yx yy vx vy) (omega (arith, ints)) in
-        ⊎_elim {C = IsCrossing wx wy vx vy yx yy ⊎ EndNear r wx wy vx vy yx yy} (λ z. inl (inr z)) (λ z. inr z)
+        ⊎_elim {C = AreLinesCrossing wx wy vx vy yx yy ⊎ EndNear r wx wy vx vy yx yy} (λ z. inl (inr z)) (λ z. inr z)
         (run r wx wy vx vy yx yy h (cross yx yy vx vy) (cross wx wy yx yy) (cross wx wy vx vy) n.0 n.1
         (omega (arith, ints, cramer_x wx wy vx vy yx yy, anti_times yx yy vx vy wx, anti_times wx wy yx yy vx, anti_times wx wy vx vy yx))
         (omega (arith, ints, cramer_y wx wy vx vy yx yy, anti_times yx yy vx vy wy, anti_times wx wy yx yy vy, anti_times wx wy vx vy yy))
@@ -201,8 +200,8 @@ met r wx wy vx vy yx yy (negsuc s) t u h ex ey = absurd (omega (arith, ints, h.s
 met r wx wy vx vy yx yy (pos s) (negsuc t) u h ex ey = absurd (omega (arith, ints, h.t_low))
 met r wx wy vx vy yx yy (pos s) (pos t) (negsuc u) h ex ey = absurd (omega (arith, ints, h.u_low))
 
-pub crosses_near : (r : ℕ) (wx wy vx vy yx yy : ℤ) → IsCrossing wx wy vx vy yx yy → AreNear r wx wy vx vy yx yy
-unfolding IsCrossing
+pub crosses_near : (r : ℕ) (wx wy vx vy yx yy : ℤ) → AreLinesCrossing wx wy vx vy yx yy → AreNear r wx wy vx vy yx yy
+unfolding AreLinesCrossing
 crosses_near r wx wy vx vy yx yy (inl h) = met r wx wy vx vy yx yy _ _ _ h (cramer_x wx wy vx vy yx yy) (cramer_y wx wy vx vy yx yy)
 crosses_near r wx wy vx vy yx yy (inr h) =
     met r wx wy vx vy yx yy _ _ _ h

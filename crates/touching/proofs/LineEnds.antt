@@ -6,8 +6,7 @@ use Rattle.touching.proofs.Walk.{Slack}
 use Rattle.touching.proofs.Ring.{blend}
 use Rattle.touching.proofs.Short.{IsShort}
 use Rattle.touching.proofs.PointToLine.{IsNear}
-use Rattle.plane.proofs.Times.{mul_add, mul_sub}
-use Rattle.plane.proofs.Near.{mul_neg}
+use Rattle.grid_num.proofs.Products.{mul_add, mul_sub, mul_neg}
 
 -- with w from the second line's start to the first's, v along the first and y along the second, the places m / n of the
 -- first and l / n of the second are within reach of one another

@@ -3,7 +3,7 @@ use Rattle.std.proofs.Common.{◌≡◌, refl, ℕ, ◌≤◌, ◌+◌, ◌*◌,
 use Rattle.std.specs.Prelude.{ℤ, pos, neg_ℤ, ◌+ℤ◌, ◌-ℤ◌, ◌*ℤ◌}
 use Rattle.std.proofs.lemmas.Int.{ints}
 use Rattle.touching.specs.Core.{Spot, line, OnLine, InCore}
-use Rattle.touching.specs.Decision.{IsPointClose, AreLinesClose}
+use Rattle.touching.specs.Inner.Decision.{IsPointClose, AreLinesClose}
 use Rattle.touching.proofs.Ring.{weigh}
 use Rattle.touching.proofs.Short.{rescaled, as_short, turned_back}
 use Rattle.touching.proofs.PointToLine.{near_test, test_near}
@@ -11,8 +11,7 @@ use Rattle.touching.proofs.LineEnds.{AreNear, EndNear}
 use Rattle.touching.proofs.LineCrossing.{segments, end_near, crosses_near}
 use Rattle.touching.proofs.Pairs.{Pair}
 use Rattle.plane.specs.Plane.{PlanePoint, positive_product}
-use Rattle.plane.proofs.Times.{mul_add, mul_sub}
-use Rattle.plane.proofs.Near.{mul_neg}
+use Rattle.grid_num.proofs.Products.{mul_add, mul_sub, mul_neg}
 use Rattle.plane.proofs.Points.{mul_mul, mul_swap}
 
 -- along one coordinate: the step between two means is the step between the places

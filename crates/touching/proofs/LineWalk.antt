@@ -3,11 +3,11 @@ use Rattle.std.proofs.Common.{◌≡◌, ℕ, zero, suc, ◌+◌, ◌≤◌, ◌
 use Rattle.std.specs.Prelude.{ℤ, pos, ◌+ℤ◌, ◌-ℤ◌, ◌*ℤ◌, ◌≤ℤ◌}
 use Rattle.std.proofs.lemmas.Int.{ints, by_lt_z}
 use lib.IntN.{zero-*ℤ}
-use Rattle.touching.specs.Decision.{IsSquare}
+use Rattle.touching.specs.Inner.Decision.{IsSquare}
 use Rattle.touching.proofs.Walk.{Starts, Keeps, Hits, walk}
 use Rattle.touching.proofs.Short.{IsShort, shrunk, natural}
 use Rattle.touching.proofs.LineEnds.{AreNear, EndNear, on_way, Slacks, AtEnd, ended}
-use Rattle.plane.proofs.Times.{mul_sub, mul_le_back}
+use Rattle.grid_num.proofs.Products.{mul_sub, mul_le_back}
 
 same_place : (a b c : ℕ) (n m l w x y : ℤ) → n ≡ pos a → m ≡ pos b → l ≡ pos c
     → (n *ℤ w +ℤ m *ℤ x -ℤ l *ℤ y) ≡ (pos a *ℤ w +ℤ pos b *ℤ x -ℤ pos c *ℤ y)

@@ -5,7 +5,7 @@ use Rattle.std.proofs.lemmas.Int.{ints, by_lt_z}
 use lib.IntN.{*ℤ_comm, zero-*ℤ}
 use Rattle.touching.proofs.Ring.{assoc, weigh}
 use Rattle.touching.proofs.Short.{natural}
-use Rattle.plane.proofs.Times.{mul_add, mul_sub}
+use Rattle.grid_num.proofs.Products.{mul_add, mul_sub}
 use Rattle.plane.proofs.Points.{mul_swap}
 
 record Means (k : ℕ) (a b x : ℤ) : Type 0 where

@@ -3,8 +3,8 @@ use Rattle.std.proofs.Common.{◌≡◌, refl, ℕ, ◌≤◌, ◌*◌, ◌-◌,
 use Rattle.std.specs.Prelude.{ℤ, pos, ◌+ℤ◌, ◌-ℤ◌, ◌*ℤ◌, ◌≤ℤ◌}
 use Rattle.std.proofs.lemmas.Int.{ints}
 use Rattle.touching.specs.Core.{Spot, Core, area, line, OnLine, InCore, IsWhole, IsReached, Touches}
-use Rattle.touching.specs.Decision.{Side, start_of, end_of, IsPointClose, AreLinesClose}
-use Rattle.touching.specs.Laws.{AreMeeting, HasSide, HasCorner, CornerReaches, DistanceLaw}
+use Rattle.touching.specs.Inner.Decision.{Side, start_of, end_of, IsPointClose, AreLinesClose}
+use Rattle.touching.specs.Laws.{AreMeeting, HasSide, HasCorner, CornerReaches, CoreDistanceLaw}
 use Rattle.touching.proofs.Short.{IsShort, square_is, as_short}
 use Rattle.touching.proofs.Pairs.{Pair, touches_pair, pair_touches, InCore-same, pair_turned}
 use Rattle.touching.proofs.Leave.{Leaves, leave}
@@ -14,7 +14,7 @@ use Rattle.touching.proofs.LineCrossing.{crosses_near, no_square}
 use Rattle.touching.proofs.LineToLine.{lines_close, near_pair, place, place_on, whole}
 use Rattle.touching.proofs.AreaToLine.{left_pair, once, start_on, end_on, same_pair}
 use Rattle.plane.specs.Plane.{PlanePoint, Bounds, In, IsTight, grid_point, minus}
-use Rattle.plane.proofs.Times.{mul_sub}
+use Rattle.grid_num.proofs.Products.{mul_sub}
 
 -- a corner of c is close to a side of d
 pub record CornerNear (a : ℕ) (c d : Core) : Type 0 where
@@ -160,7 +160,7 @@ meeting_touches r c d h = pair_touches r c d (same_pair (r * r) c d h.0 h.1 h.2)
 turned_touches : (r : ℕ) (c d : Core) → Touches r d c → Touches r c d
 turned_touches r c d h = pair_touches r c d (pair_turned (r * r) d c (touches_pair r d c h))
 
-pub distance_law : DistanceLaw
+pub distance_law : CoreDistanceLaw
 unfolding Nearest
 distance_law r c d w z = (λ h. reach (nearest (r * r) c d w z (touches_pair r c d h)), back)
   where

@@ -2,13 +2,13 @@
 use Rattle.std.proofs.Common.{◌≡◌, ℕ, ◌*◌, inl, inr, ⊎_elim, arith, sym, subst, lit≤, ◌∙◌}
 use Rattle.std.specs.Prelude.{ℤ, pos, ◌+ℤ◌, ◌-ℤ◌, ◌*ℤ◌, ◌≤ℤ◌}
 use Rattle.std.proofs.lemmas.Int.{ints}
-use Rattle.touching.specs.Decision.{IsSideClose, IsOriginClose}
+use Rattle.touching.specs.Inner.Decision.{IsSideClose, IsOriginClose}
 use Rattle.touching.proofs.Ring.{square_sum, square_diff}
 use Rattle.touching.proofs.Short.{IsShort, shrunk}
 use Rattle.touching.proofs.Side.{side_test}
 use Rattle.touching.proofs.Leave.{OnBound, Leaves, leave}
 use Rattle.plane.specs.Plane.{PlanePoint, Bounds, In, Within, IsTight, grid_point}
-use Rattle.plane.proofs.Times.{mul_add, mul_sub}
+use Rattle.grid_num.proofs.Products.{mul_add, mul_sub}
 
 module _ (a : ℕ) (b : Bounds) (p : PlanePoint) (h : In b p) (c : IsShort a p.scale p.x p.y) where
   straight : (p.x *ℤ p.x +ℤ p.y *ℤ p.y) ≤ℤ pos (a * (p.scale * p.scale))

@@ -6,7 +6,7 @@ use Rattle.touching.specs.Core.{Core, area, line, InCore, IsReached, Touches}
 use Rattle.touching.proofs.Ring.{mul_cancel}
 use Rattle.touching.proofs.Short.{IsShort, shrunk, as_short, turned_back}
 use Rattle.plane.specs.Plane.{PlanePoint, IsSame, minus, positive_product}
-use Rattle.plane.proofs.Times.{mul_sub}
+use Rattle.grid_num.proofs.Products.{mul_sub}
 use Rattle.plane.proofs.Points.{mul_mul, mul_swap, In-same}
 
 -- a point of each, within reach of one another

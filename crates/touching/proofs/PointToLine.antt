@@ -2,11 +2,11 @@
 use Rattle.std.proofs.Common.{◌≡◌, ℕ, zero, suc, ◌+◌, ◌≤◌, ◌*◌, ◌⊎◌, inl, inr, arith, ap, sym, subst, ◌∙◌}
 use Rattle.std.specs.Prelude.{ℤ, pos, negsuc, ◌+ℤ◌, ◌-ℤ◌, ◌*ℤ◌, ◌≤ℤ◌, ◌<ℤ◌}
 use Rattle.std.proofs.lemmas.Int.{ints, by_lt_z}
-use Rattle.touching.specs.Decision.{inner, cross, IsBeside}
+use Rattle.touching.specs.Inner.Decision.{inner, cross, IsPointBeside}
 use Rattle.touching.proofs.Short.{IsShort, square_is, squares_are}
 use Rattle.touching.proofs.Ring.{mean_square, lagrange}
 use Rattle.touching.proofs.Scalars.{near_start, near_end, near_middle, middle_reached}
-use Rattle.plane.proofs.Times.{mul_add}
+use Rattle.grid_num.proofs.Products.{mul_add}
 
 -- with w from the line's start to the point and v along the line, the place j / n of the line is within reach
 pub record IsNear (r : ℕ) (wx wy vx vy : ℤ) : Type 0 where
@@ -99,14 +99,14 @@ placed_z r f d l k a b c is h =
     (subst (λ (z : ℤ). Verdict r (pos a.0) d z k) b.1 (subst (λ (z : ℤ). Verdict r z d l k) a.1 h)) in
     subst (λ (z : ℤ). Place r z d l) (sym a.1) (subst (λ (z : ℤ). Place r (pos a.0) d z) (sym b.1) (placed r a.0 d b.0 c.0 is1 h1))
 
-pub near_test : (r : ℕ) (wx wy vx vy : ℤ) → IsNear r wx wy vx vy → IsBeside r wx wy vx vy
-unfolding Quadratic Verdict IsBeside
+pub near_test : (r : ℕ) (wx wy vx vy : ℤ) → IsNear r wx wy vx vy → IsPointBeside r wx wy vx vy
+unfolding Quadratic Verdict IsPointBeside
 near_test r wx wy vx vy h =
     decided_z r h.n h.j (inner wx wy wx wy) (inner wx wy vx vy) (inner vx vy vx vy) (cross wx wy vx vy *ℤ cross wx wy vx vy) (squares_are wx wy)
     (squares_are vx vy) (square_is (cross wx wy vx vy)) h.some h.inside (lagrange wx wy vx vy) (rw (← spread h.n h.j wx wy vx vy) h.close)
 
-pub test_near : (r : ℕ) (wx wy vx vy : ℤ) → IsBeside r wx wy vx vy → IsNear r wx wy vx vy
-unfolding Quadratic Verdict IsBeside
+pub test_near : (r : ℕ) (wx wy vx vy : ℤ) → IsPointBeside r wx wy vx vy → IsNear r wx wy vx vy
+unfolding Quadratic Verdict IsPointBeside
 test_near r wx wy vx vy h =
     let p = placed_z r (inner wx wy wx wy) (inner wx wy vx vy) (inner vx vy vx vy) (cross wx wy vx vy *ℤ cross wx wy vx vy) (squares_are wx wy)
     (squares_are vx vy) (square_is (cross wx wy vx vy)) (lagrange wx wy vx vy) h in

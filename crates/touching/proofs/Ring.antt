@@ -3,7 +3,7 @@ use Rattle.std.proofs.Common.{◌≡◌, ℕ, zero, suc, arith, ◌*◌, ◌+◌
 use Rattle.std.specs.Prelude.{ℤ, pos, negsuc, neg_ℤ, ◌+ℤ◌, ◌-ℤ◌, ◌*ℤ◌}
 use Rattle.std.proofs.lemmas.Int.{ints}
 use lib.IntN.{*ℤ_comm, zero-*ℤ}
-use Rattle.plane.proofs.Times.{mul_add, mul_sub, mul_suc, mul_le_back}
+use Rattle.grid_num.proofs.Products.{mul_add, mul_sub, mul_suc, mul_le_back}
 
 -- a negative number times another
 neg_mul : (n : ℕ) (b : ℤ) → negsuc n *ℤ b ≡ neg_ℤ (pos (n + 1) *ℤ b)

@@ -5,13 +5,13 @@ use Rattle.std.proofs.lemmas.Int.{ints}
 use Rattle.std.proofs.lemmas.Bool.{cases_lt}
 use Rattle.std.proofs.Math.Nat.{mul-le-mul_right}
 use Rattle.touching.specs.Core.{Core, InCore, IsReached, InCopper, Touches}
-use Rattle.touching.specs.Decision.{inner}
+use Rattle.touching.specs.Inner.Decision.{inner}
 use Rattle.touching.specs.Laws.{CopperLaw}
 use Rattle.touching.proofs.Ring.{square_sum, lagrange, weigh}
 use Rattle.touching.proofs.Short.{IsShort, square_is, squares_are, square_le, scaled_square, as_short, rescaled, turned_back}
 use Rattle.touching.proofs.Pairs.{Pair, touches_pair}
 use Rattle.plane.specs.Plane.{PlanePoint, minus, positive_product}
-use Rattle.plane.proofs.Times.{mul_add, mul_sub}
+use Rattle.grid_num.proofs.Products.{mul_add, mul_sub}
 use Rattle.plane.proofs.Points.{mul_mul, mul_swap}
 
 root_le : (m n : ℕ) → m * m ≤ n * n → m ≤ n

@@ -3,10 +3,10 @@ use Rattle.std.proofs.Common.{◌≡◌, refl, ℕ, zero, suc, ◌≤◌, ◌+�
 use Rattle.std.specs.Prelude.{ℤ, pos, negsuc, neg_ℤ, ◌+ℤ◌, ◌*ℤ◌, ◌≤ℤ◌}
 use Rattle.std.proofs.lemmas.Int.{ints}
 use Rattle.std.proofs.Math.Nat.{mul-le-mul_right}
-use Rattle.touching.specs.Decision.{inner}
+use Rattle.touching.specs.Inner.Decision.{inner}
 use Rattle.touching.proofs.Ring.{swap4}
 use Rattle.touching.proofs.Scalars.{cancel, one_square}
-use Rattle.plane.proofs.Times.{mul_add}
+use Rattle.grid_num.proofs.Products.{mul_add}
 
 -- x and y, at the scale k, are at most the root of a long
 abbrev pub IsShort : ℕ → ℕ → ℤ → ℤ → Type 0

@@ -2,7 +2,7 @@
 use Rattle.std.proofs.Common.{◌≡◌, ℕ, zero, suc, ◌+◌, ◌≤◌, ◌*◌, inl, inr, arith, ap, ◌∙◌}
 use Rattle.std.specs.Prelude.{ℤ, pos, negsuc, ◌+ℤ◌, ◌*ℤ◌, ◌≤ℤ◌}
 use Rattle.std.proofs.lemmas.Int.{ints, by_lt_z}
-use Rattle.touching.specs.Decision.{IsSideClose}
+use Rattle.touching.specs.Inner.Decision.{IsSideClose}
 use Rattle.touching.proofs.Ring.{swap4}
 use Rattle.touching.proofs.Scalars.{cancel, one_square}
 use Rattle.touching.proofs.Short.{square_is, square_le}

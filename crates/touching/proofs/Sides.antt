@@ -3,12 +3,12 @@ use Rattle.std.proofs.Common.{refl, ℕ, ◌+◌, inl, inr, arith, sym}
 use Rattle.std.specs.Prelude.{ℤ, pos, ◌+ℤ◌, ◌-ℤ◌, ◌*ℤ◌, ◌≤ℤ◌}
 use Rattle.std.proofs.lemmas.Int.{ints}
 use Rattle.touching.specs.Core.{Spot, OnLine}
-use Rattle.touching.specs.Decision.{Side, top, top_right, right, bottom_right, bottom, bottom_left, left, top_left, start_of, end_of}
+use Rattle.touching.specs.Inner.Decision.{Side, top, top_right, right, bottom_right, bottom, bottom_left, left, top_left, start_of, end_of}
 use Rattle.touching.proofs.Ring.{weigh}
 use Rattle.touching.proofs.Means.{upward, downward, level, along_to, against_to}
 use Rattle.touching.proofs.Leave.{OnBound}
 use Rattle.plane.specs.Plane.{PlanePoint, Bounds, In, Within, IsTight, times}
-use Rattle.plane.proofs.Times.{mul_add, mul_sub, mul_le}
+use Rattle.grid_num.proofs.Products.{mul_add, mul_sub, mul_le}
 use Rattle.plane.proofs.Points.{In-same}
 
 low : (i j : ℕ) (c a b : ℤ) → c ≤ℤ a → c ≤ℤ b → (pos (i + j) *ℤ c) ≤ℤ (pos i *ℤ a +ℤ pos j *ℤ b)

@@ -2,11 +2,16 @@
 -- scale, in halves of a nanometre.
 use Rattle.std.specs.Prelude.{◌≡◌, ℕ, ◌≤◌, ◌+◌, ◌*◌, ℤ, pos, ◌+ℤ◌, ◌*ℤ◌, ◌≤ℤ◌}
 use Rattle.plane.specs.Plane.{PlanePoint, Bounds, In, IsTight, minus, scaled_dist_sq}
+use Rattle.grid_num.specs.declared.Point.{Point}
 
 -- a place with whole coordinates, as the end of a track
 pub record Spot : Type 0 where
   pub x : ℤ
   pub y : ℤ
+
+-- a point of the code as a place of the plane
+abbrev pub spot : Point → Spot
+spot p = record { x = p.x; y = p.y }
 
 -- the middle of a piece of copper: an area (of a via a point, of a pad a box, of a cell of a fill an octagon), or the
 -- line that a track follows

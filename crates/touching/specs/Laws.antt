@@ -2,15 +2,15 @@
 use Rattle.std.specs.Prelude.{◌≡◌, ℕ, ◌+◌, ◌*◌, ◌⊎◌, ◌↔◌, pos, ◌*ℤ◌, ◌≤ℤ◌}
 use Rattle.plane.specs.Plane.{PlanePoint, grid_point, minus, scaled_dist_sq}
 use Rattle.touching.specs.Core.{Spot, Core, area, line, OnLine, InCore, IsWhole, IsReached, InCopper, Touches}
-use Rattle.touching.specs.Decision.{Side, start_of, end_of, AreClose}
+use Rattle.touching.specs.Inner.Decision.{Side, start_of, end_of, AreClose}
 
 -- the decision on whole numbers holds exactly where the cores are within reach: of all their points, at every scale
 abbrev pub DecisionLaw : Type 0
 DecisionLaw = (r : ℕ) (c d : Core) → IsWhole c → IsWhole d → AreClose (r * r) c d ↔ Touches r c d
 
 -- touching has no order
-abbrev pub OrderLaw : Type 0
-OrderLaw = (r : ℕ) (c d : Core) → Touches r c d ↔ Touches r d c
+abbrev pub TouchingOrderLaw : Type 0
+TouchingOrderLaw = (r : ℕ) (c d : Core) → Touches r c d ↔ Touches r d c
 
 -- touching is what it says: two pieces of copper touch exactly where they have a point in common
 abbrev pub CopperLaw : Type 0
@@ -42,8 +42,8 @@ pub record CornerReaches (r : ℕ) (c d : Core) : Type 0 where
 
 -- the law of distances: cores within reach of one another meet, or a corner of the one is within reach of a point of a
 -- side of the other. Nothing else has to be tried.
-abbrev pub DistanceLaw : Type 0
-DistanceLaw =
+abbrev pub CoreDistanceLaw : Type 0
+CoreDistanceLaw =
     (r : ℕ) (c d : Core) → IsWhole c → IsWhole d
     → Touches r c d ↔ (AreMeeting c d ⊎ (CornerReaches r c d ⊎ CornerReaches r d c))
 

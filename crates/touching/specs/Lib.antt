@@ -1,3 +1,3 @@
 pub mod Core
-pub mod Decision
 pub mod Laws
+pub mod Inner

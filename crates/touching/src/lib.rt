@@ -3,7 +3,7 @@
 //! A coordinate is half a nanometre.
 #![tactic(auto)]
 
-ghost use Rattle.touching.specs.Laws.{DecisionLaw, OrderLaw, CopperLaw, DistanceLaw, LeastLaw};
+ghost use Rattle.touching.specs.Laws.{DecisionLaw, TouchingOrderLaw, CopperLaw, CoreDistanceLaw, LeastLaw};
 
 /// The decision on whole numbers holds for two cores exactly where some point of the one is within reach of some point of
 /// the other: lines, areas, and one of each.
@@ -13,13 +13,13 @@ pub fn decision_law()
 
 /// Touching has no order.
 pub fn order_law()
-    ensures { OrderLaw }
+    ensures { TouchingOrderLaw }
 {}
 
 /// The law of distances: two cores are within reach exactly where they meet, or where a corner of the one is within reach
 /// of a point of a side of the other.
 pub fn distance_law()
-    ensures { DistanceLaw }
+    ensures { CoreDistanceLaw }
 {}
 
 /// Two pieces of copper touch exactly where they have a point in common.

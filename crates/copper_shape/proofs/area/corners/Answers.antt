@@ -1,4 +1,4 @@
-use Rattle.cores.specs.contracts.area.Area.{the_view}
+use Rattle.cores.specs.contracts.area.AreaBounds.{the_view}
 use Rattle.copper_shape.proofs.Areas.{are_wide, sub_fits, add_fits, code_corners-is}
 use Rattle.copper_shape.proofs.area.corners.Goals as goal
 

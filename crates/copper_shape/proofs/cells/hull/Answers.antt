@@ -1,5 +1,5 @@
 use Rattle.std.proofs.Common.{◌∙◌}
-use Rattle.hulls.specs.Cells.{cells_of}
+use Rattle.hulls.specs.Cells.{points_round_all}
 use Rattle.copper_shape.proofs.CellLists.{cells_near, cells_some, near_reach, hull_room, code_hull}
 use Rattle.copper_shape.proofs.cells.hull.Goals as goal
 
@@ -9,7 +9,7 @@ of_points-around-requires-clause-some c = rw (c.as_slice.ensures.value, c.in_ok-
 pub of_points-around-requires-clause-reach : goal.of_points-around-requires-clause-reach
 of_points-around-requires-clause-reach c =
     rw (c.as_slice.ensures.value, c.in_ok-cells.ensures)
-    (near_reach (cells_of c.args.n c.args.corners.now) (cells_near c.args.n 500000000 c.args.corners.now c.requires.scale.0 c.requires.places))
+    (near_reach (points_round_all c.args.n c.args.corners.now) (cells_near c.args.n 500000000 c.args.corners.now c.requires.scale.0 c.requires.places))
 
 pub sum-requires : goal.sum-requires
 sum-requires c =

@@ -1,4 +1,4 @@
-use Rattle.touching.specs.Decision.{end_of, bottom, bottom_left, left, top_left}
+use Rattle.touching.specs.Inner.Decision.{end_of, bottom, bottom_left, left, top_left}
 use Rattle.cores.specs.Room.{spot}
 use Rattle.cores.proofs.AreaTests.{four, side_test}
 use Rattle.cores.proofs.sides.is_left_close.Goals as goal

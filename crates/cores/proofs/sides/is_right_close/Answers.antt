@@ -1,4 +1,4 @@
-use Rattle.touching.specs.Decision.{end_of, top, top_right, right, bottom_right}
+use Rattle.touching.specs.Inner.Decision.{end_of, top, top_right, right, bottom_right}
 use Rattle.cores.specs.Room.{spot}
 use Rattle.cores.proofs.AreaTests.{four, side_test}
 use Rattle.cores.proofs.sides.is_right_close.Goals as goal

@@ -1,7 +1,7 @@
 use Rattle.std.proofs.Common.{arith}
-use Rattle.touching.specs.Decision.{steps_of}
+use Rattle.touching.specs.Inner.Decision.{steps_of}
 use Rattle.plane.proofs.Equal.{equal}
-use Rattle.cores.specs.contracts.area.Area.{the_view}
+use Rattle.cores.specs.contracts.area.AreaBounds.{the_view}
 use Rattle.cores.proofs.CornerPlaces.{small}
 use Rattle.cores.proofs.Plain.{near_read, beyond_read}
 use Rattle.cores.proofs.steps.steps_between.Goals as goal

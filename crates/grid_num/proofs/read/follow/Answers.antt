@@ -5,5 +5,5 @@ use Rattle.grid_num.proofs.read.follow.Goals as goal
 pub loop-digit-preserved : goal.loop-digit-preserved
 loop-digit-preserved c = record {
   small = omega arith;
-  same = rw (c.min-sum.ensures, c.from.ensures) (capped_more 500000001 c.loop-digit.sum c.args.before c.args.digits.now c.loop-digit.digit-index c.loop-digit-test.true c.loop-digit.invariant.same);
+  same = rw (c.min-sum.ensures, c.from.ensures) (capped_more c.args.beyond c.loop-digit.sum c.args.before c.args.digits.now c.loop-digit.digit-index c.loop-digit-test.true c.loop-digit.invariant.same);
 }

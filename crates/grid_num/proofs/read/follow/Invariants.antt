@@ -4,6 +4,6 @@ use Rattle.grid_num.proofs.read.follow.Given as goal
 
 abbrev pub invariant-loop-digit : goal.invariant-loop-digit
 invariant-loop-digit l = record {
-  small : l.sum ≤ 500000001;
-  same : min 500000001 (number_after l.sum (drop l.digit-index l.digits)) ≡ min 500000001 (number_after l.before l.digits);
+  small : l.sum ≤ l.beyond;
+  same : min l.beyond (number_after l.sum (drop l.digit-index l.digits)) ≡ min l.beyond (number_after l.before l.digits);
 }

@@ -1,6 +1,6 @@
 use Rattle.std.proofs.Common.{refl, arith}
 use Rattle.std.proofs.lemmas.Int.{ints}
-use Rattle.plane.proofs.Near.{up2_le_double}
+use Rattle.grid_num.proofs.Roots.{up2_le_double}
 use Rattle.octagon.specs.contracts.Oct.{the_view}
 use Rattle.octagon.proofs.Plain.{plain_need, up2_room, apart_law, small_read, IsOct-IsSmall}
 use Rattle.octagon.proofs.Oct.apart.Goals as goal

@@ -2,7 +2,8 @@ use Rattle.std.proofs.Common.{ℕ, subst, arith, below_more, get_or}
 use Rattle.std.proofs.lemmas.List.{get_or_default}
 use Rattle.plane.specs.Plane.{Within}
 use Rattle.grid_num.specs.declared.Point.{Point}
-use Rattle.octagon.proofs.Hull.{at_inside, widened_new, widened_old, widened_inside, inside_in}
+use Rattle.octagon.proofs.Hull.{at_inside, widened_new, widened_old, widened_inside}
+use Rattle.plane.proofs.Inside.{inside_in}
 use Rattle.octagon.proofs.Oct.of_points.Goals as goal
 
 pub points-init : goal.points-init

@@ -3,7 +3,7 @@ use Rattle.std.specs.Prelude.{slice_index_or}
 use Rattle.std.specs.List.{All}
 use Rattle.plane.specs.Plane.{Bounds, Within, IsOct}
 use Rattle.grid_num.specs.declared.Point.{Point}
-use Rattle.octagon.specs.Hull.{IsInside}
+use Rattle.plane.proofs.Inside.{IsInside}
 use Rattle.octagon.proofs.Oct.of_points.Given as goal
 
 abbrev pub invariant-points : goal.invariant-points

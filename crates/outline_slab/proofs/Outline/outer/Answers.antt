@@ -1,7 +1,7 @@
 use Rattle.std.specs.Prelude.{◌↔◌}
 use Rattle.std.proofs.lemmas.Result.{IfOk-weaker}
 use Rattle.plane.specs.Plane.{PlanePoint}
-use Rattle.covering.specs.Covering.{Covers, edges_of}
+use Rattle.plane.specs.Covering.{Covers, edges_of}
 use Rattle.slabs.specs.Outside.{IsOutside}
 use Rattle.outline_slab.specs.Cuts.{all_edges, IsInSome}
 use Rattle.outline_slab.proofs.Frames.{both_edges, closed_both, sound_both, outside_of}

@@ -1,7 +1,7 @@
 use Rattle.std.proofs.Common.{◌≡◌, refl, sym, ◌∙◌, ap, subst, ℕ, ◌<◌, arith, below_more, get_or, length}
 use Rattle.std.proofs.lemmas.Bool.{iff_false}
 use Rattle.std.proofs.lemmas.List.{get_or_default}
-use Rattle.covering.specs.Covering.{Edge, IsOn, crossing, edges_of}
+use Rattle.plane.specs.Covering.{Edge, IsOn, crossing, edges_of}
 use Rattle.outline_slab.specs.Rules.{edge, no_edge}
 use Rattle.outline_slab.proofs.Chain.{edges_length}
 use Rattle.outline_slab.proofs.Scaled.{parity_step, covered_is, passed_is}

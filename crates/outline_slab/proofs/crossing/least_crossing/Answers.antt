@@ -1,5 +1,5 @@
 use Rattle.std.proofs.Common.{ℕ, arith, below_more, length}
-use Rattle.outline_slab.specs.Search.{MissesLater}
+use Rattle.outline_slab.specs.Inner.Search.{MissesLater}
 use Rattle.outline_slab.proofs.LeastPair.{better_later, least_found}
 use Rattle.outline_slab.proofs.crossing.least_crossing.Goals as goal
 

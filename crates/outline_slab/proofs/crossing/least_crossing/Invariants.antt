@@ -1,5 +1,5 @@
 use Rattle.std.proofs.Common.{ℕ, ◌<◌, length}
-use Rattle.outline_slab.specs.Search.{MissesLater, IsFound}
+use Rattle.outline_slab.specs.Inner.Search.{MissesLater, IsFound}
 use Rattle.outline_slab.proofs.crossing.least_crossing.Given as goal
 
 abbrev pub invariant-place : goal.invariant-place

@@ -1,7 +1,7 @@
 use Rattle.std.proofs.Common.{◌≡◌, ◌∙◌, ap, sym, ℕ, ◌<◌, inl, inr, arith, below_more, get_or}
 use Rattle.std.specs.Prelude.{◌<ℤ◌}
 use Rattle.std.proofs.lemmas.Bool.{cases_lt}
-use Rattle.outline_slab.specs.Search.{Misses}
+use Rattle.outline_slab.specs.Inner.Search.{Misses}
 use Rattle.outline_slab.specs.declared.rows.Row.{Row}
 use Rattle.outline_slab.proofs.LeastPair.{better_trans, better_later, apart_later, index_read}
 use Rattle.outline_slab.proofs.crossing.with_later.Goals as goal

@@ -3,7 +3,7 @@ use Rattle.std.specs.Prelude.{◌+ℤ◌}
 use Rattle.std.proofs.lemmas.Int.{ints}
 use Rattle.outline_slab.specs.declared.side.Side.{Side}
 use Rattle.outline_slab.proofs.Sides.{ordered_cuts, order_of}
-use Rattle.outline_slab.proofs.Sorted.{sorted_by_ints}
+use Rattle.grid_num.proofs.SortedInts.{sorted_by_ints}
 use Rattle.outline_slab.proofs.cuts.in_order.Goals as goal
 
 pub returns-clause-cuts : goal.returns-clause-cuts

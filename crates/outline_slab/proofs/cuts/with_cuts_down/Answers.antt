@@ -3,7 +3,7 @@ use Rattle.std.proofs.lemmas.Int.{ints}
 use mir.Val.{to_z, of_z}
 use mir.Syntax.{w64}
 use Rattle.slabs.proofs.Cutting.{begin_law}
-use Rattle.outline_slab.specs.Side.{edge_of}
+use Rattle.outline_slab.specs.Inner.Side.{side_edge}
 use Rattle.outline_slab.specs.Cuts.{all_edges}
 use Rattle.outline_slab.proofs.Sides.{part_reached, part_octilinear, some_row, smaller, step, last, neighbours_same, one_same}
 use Rattle.outline_slab.proofs.cuts.with_cuts_down.Goals as goal
@@ -17,7 +17,7 @@ row-init c =
     let e : to_z w64 (of_z w64 s.start.y) ≡ s.start.y = search (rules, arith, ints) in
     let f : c.next_row-row.result ≡ to_z w64 (of_z w64 c.next_row-row.result) = sym (search (rules, arith, ints)) in
     record {
-      rest = begin_law rows (edge_of s) (all_edges c.args.cuts.items) c.requires.down c.requires.sound.octilinear c.requires.ends.0 c.requires.ends.1;
+      rest = begin_law rows (side_edge s) (all_edges c.args.cuts.items) c.requires.down c.requires.sound.octilinear c.requires.ends.0 c.requires.ends.1;
       finish = refl;
       after = omega (arith, ints, n.after, e, f);
       is = one_same rows _ _ f n.row;
@@ -27,10 +27,10 @@ row-init c =
 pub point_at-middle-requires-clause-reach : goal.point_at-middle-requires-clause-reach
 point_at-middle-requires-clause-reach c =
     let p = c.row.invariant.rest.part in
-    part_reached (edge_of c.args.side) (edge_of c.row.rest) p.line p.from p.to c.requires.sound.reached
+    part_reached (side_edge c.args.side) (side_edge c.row.rest) p.line p.from p.to c.requires.sound.reached
 
 pub point_at-middle-requires-clause-octilinear : goal.point_at-middle-requires-clause-octilinear
-point_at-middle-requires-clause-octilinear c = part_octilinear (edge_of c.args.side) (edge_of c.row.rest) c.row.invariant.rest.part.line
+point_at-middle-requires-clause-octilinear c = part_octilinear (side_edge c.args.side) (side_edge c.row.rest) c.row.invariant.rest.part.line
 
 pub next_row-row-requires-in-row-clause-some : goal.next_row-row-requires-in-row-clause-some
 next_row-row-requires-in-row-clause-some c = some_row c.args.rows.now _ c.args.side.finish.y (omega (arith, ints)) c.requires.ends.1

@@ -1,5 +1,5 @@
 use Rattle.std.proofs.Common.{◌≡◌, ◌++◌, take}
-use Rattle.covering.specs.Covering.{edges_of}
+use Rattle.plane.specs.Covering.{edges_of}
 use Rattle.outline_slab.specs.Cuts.{all_edges}
 use Rattle.outline_slab.proofs.inside.with_sides.Given as goal
 

@@ -1,5 +1,5 @@
 use Rattle.std.proofs.Common.{◌≡◌, map, take}
-use Rattle.covering.specs.Units.{finer}
+use Rattle.plane.specs.Units.{finer}
 use Rattle.outline_slab.proofs.make.all_halved.Given as goal
 
 abbrev pub invariant-each : goal.invariant-each

@@ -1,7 +1,7 @@
 use Rattle.std.proofs.Common.{◌≡◌, ◌<◌, subst, sym, ◌∙◌, arith, length}
 use Rattle.std.proofs.lemmas.Bool.{iff_false}
 use Rattle.std.proofs.lemmas.List.{get_or_default}
-use Rattle.covering.specs.Covering.{edges_of}
+use Rattle.plane.specs.Covering.{edges_of}
 use Rattle.outline_slab.specs.Rules.{IsSide, no_edge}
 use Rattle.outline_slab.proofs.Chain.{edges_length}
 use Rattle.outline_slab.proofs.make.first_off_angle.Goals as goal

@@ -1,6 +1,6 @@
 use Rattle.std.proofs.Common.{ℕ, ◌<◌}
 use Rattle.std.specs.Prelude.{slice_index_or}
-use Rattle.covering.specs.Covering.{Edge, edges_of}
+use Rattle.plane.specs.Covering.{Edge, edges_of}
 use Rattle.outline_slab.specs.Rules.{IsSide}
 use Rattle.outline_slab.proofs.make.first_off_angle.Given as goal
 

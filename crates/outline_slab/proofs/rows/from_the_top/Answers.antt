@@ -1,7 +1,7 @@
 use Rattle.std.proofs.Common.{rules, arith}
 use Rattle.std.proofs.lemmas.Int.{ints}
 use Rattle.outline_slab.specs.declared.rows.Row.{Row}
-use Rattle.outline_slab.proofs.Sorted.{sorted_by_int}
+use Rattle.grid_num.proofs.SortedInts.{sorted_by_int}
 use Rattle.outline_slab.proofs.LeastPair.{sorted_rows}
 use Rattle.outline_slab.proofs.rows.from_the_top.Goals as goal
 

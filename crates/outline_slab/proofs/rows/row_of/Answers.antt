@@ -2,7 +2,7 @@ use Rattle.std.proofs.Common.{subst, ◌↔◌, ap, arith}
 use Rattle.std.specs.Prelude.{ℤ}
 use Rattle.std.proofs.lemmas.Int.{ints}
 use Rattle.plane.specs.Plane.{PlanePoint, In}
-use Rattle.covering.specs.Covering.{Edge, IsOn}
+use Rattle.plane.specs.Covering.{Edge, IsOn}
 use Rattle.outline_slab.proofs.Crossings.{side_octilinear}
 use Rattle.outline_slab.proofs.rows.row_of.Goals as goal
 

@@ -1,7 +1,7 @@
 use Rattle.std.proofs.Common.{arith}
 use Rattle.std.proofs.lemmas.List.{length_push}
 use Rattle.std.proofs.lemmas.List.Elements.{All-push}
-use Rattle.outline_slab.specs.Search.{IsRow}
+use Rattle.outline_slab.specs.Inner.Search.{IsRow}
 use Rattle.outline_slab.proofs.LeastPair.{pushed_index}
 use Rattle.outline_slab.proofs.rows.rows_of.Goals as goal
 

@@ -1,7 +1,7 @@
 use Rattle.std.proofs.Common.{◌≡◌, ℕ, ◌<◌, length}
 use Rattle.std.specs.Prelude.{slice_index_or}
 use Rattle.std.specs.List.{All}
-use Rattle.outline_slab.specs.Search.{IsRow}
+use Rattle.outline_slab.specs.Inner.Search.{IsRow}
 use Rattle.outline_slab.specs.declared.rows.Row.{Row}
 use Rattle.outline_slab.proofs.rows.rows_of.Given as goal
 

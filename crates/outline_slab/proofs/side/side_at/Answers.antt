@@ -1,5 +1,5 @@
 use Rattle.std.proofs.Common.{sym, subst, arith}
-use Rattle.covering.specs.Covering.{Edge}
+use Rattle.plane.specs.Covering.{Edge}
 use Rattle.slabs.proofs.Outside.{ends_all}
 use Rattle.outline_slab.specs.Rules.{IsInSpan, no_edge}
 use Rattle.outline_slab.proofs.Chain.{edges_length}

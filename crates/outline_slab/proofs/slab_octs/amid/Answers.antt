@@ -2,7 +2,7 @@ use Rattle.std.proofs.Common.{ℕ, zero, suc, ◌<◌, arith, [], ◌∷◌, get
 use Rattle.plane.specs.Plane.{Bounds, Within}
 use Rattle.grid_num.specs.declared.Point.{Point}
 use Rattle.slabs.proofs.Amid.{amid_law}
-use Rattle.outline_slab.specs.Side.{edge_of}
+use Rattle.outline_slab.specs.Inner.Side.{side_edge}
 use Rattle.outline_slab.proofs.slab_octs.amid.Goals as goal
 
 four : (a b d e : Point) (c : Bounds) → Within c a.x a.y → Within c b.x b.y → Within c d.x d.y → Within c e.x e.y
@@ -18,7 +18,7 @@ returns-clause-points c = λ p.
     let l = c.args.left in
     let r = c.args.right in
     let h = c.of_points.ensures.holds in
-    amid_law (edge_of l) (edge_of r) c.of_points.result p c.requires.left c.requires.right c.requires.framed
+    amid_law (side_edge l) (side_edge r) c.of_points.result p c.requires.left c.requires.right c.requires.framed
     (record {
       upper_left = h 0 l.start (omega arith);
       upper_right = h 1 l.start (omega arith);

@@ -1,7 +1,7 @@
 use Rattle.std.proofs.lemmas.Result.{IfOk-weaker}
 use Rattle.std.specs.Prelude.{◌⊎◌, ◌↔◌}
 use Rattle.plane.specs.Plane.{PlanePoint}
-use Rattle.covering.specs.Covering.{Covers}
+use Rattle.plane.specs.Covering.{Covers}
 use Rattle.slabs.specs.Slabs.{AreCuts, IsOnLevel, IsInPair}
 use Rattle.outline_slab.specs.Cuts.{all_edges, IsInSome}
 use Rattle.outline_slab.proofs.Octs.{closed_rows, all_two, covered}

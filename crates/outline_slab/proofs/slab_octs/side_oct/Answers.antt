@@ -1,7 +1,7 @@
 use Rattle.std.proofs.Common.{ℕ, zero, suc, ◌<◌, arith, [], ◌∷◌, get_or}
 use Rattle.plane.specs.Plane.{Bounds, Within}
 use Rattle.grid_num.specs.declared.Point.{Point}
-use Rattle.outline_slab.specs.Side.{edge_of}
+use Rattle.outline_slab.specs.Inner.Side.{side_edge}
 use Rattle.outline_slab.proofs.Hulls.{hull_law}
 use Rattle.outline_slab.proofs.slab_octs.side_oct.Goals as goal
 
@@ -12,7 +12,7 @@ both a b c h g (suc (suc k)) d l = absurd (omega arith)
 
 pub returns-clause-points : goal.returns-clause-points
 returns-clause-points c =
-    hull_law (edge_of c.args.side) c.of_points.result c.requires.octilinear
+    hull_law (side_edge c.args.side) c.of_points.result c.requires.octilinear
     (record {
       start = c.of_points.ensures.holds 0 c.args.side.start (omega arith);
       finish = c.of_points.ensures.holds 1 c.args.side.start (omega arith);

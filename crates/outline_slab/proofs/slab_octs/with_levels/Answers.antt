@@ -1,11 +1,11 @@
 use Rattle.std.proofs.Common.{sym}
-use Rattle.outline_slab.specs.Cuts.{IsSound}
+use Rattle.outline_slab.specs.Cuts.{IsSoundEdge}
 use Rattle.outline_slab.proofs.Sides.{read_fact, taken_all}
 use Rattle.outline_slab.proofs.Octs.{levels_more}
 use Rattle.outline_slab.proofs.slab_octs.with_levels.Goals as goal
 
 pub with_level-requires-clause-sound : goal.with_level-requires-clause-sound
-with_level-requires-clause-sound c = read_fact IsSound c.args.sides.now c.each.i _ c.each-test.true c.requires.sound
+with_level-requires-clause-sound c = read_fact IsSoundEdge c.args.sides.now c.each.i _ c.each-test.true c.requires.sound
 
 pub each-preserved : goal.each-preserved
 each-preserved c = record {

@@ -4,7 +4,7 @@ use Rattle.std.proofs.lemmas.Int.{ints}
 use Rattle.outline_slab.specs.Cuts.{all_edges}
 use Rattle.outline_slab.proofs.Rising.{rising_from}
 use Rattle.outline_slab.proofs.Sides.{every_permuted}
-use Rattle.outline_slab.proofs.Sorted.{sorted_by_int}
+use Rattle.grid_num.proofs.SortedInts.{sorted_by_int}
 use Rattle.outline_slab.proofs.slab_rows.rows_of_ends.Goals as goal
 
 pub returns : goal.returns

@@ -4,7 +4,7 @@ use Rattle.std.proofs.lemmas.Result.{IfOk-weaker}
 use Rattle.grid_num.specs.declared.Point.{Point}
 use Rattle.outline_slab.specs.Rules.{NoneCrossing}
 use Rattle.outline_slab.specs.Faults.{IsLeastCrossing}
-use Rattle.outline_slab.specs.Exchange.{all_exchanged}
+use Rattle.outline_slab.specs.Inner.Exchange.{all_exchanged}
 use Rattle.outline_slab.proofs.Exchanged.{mirror_span, mirror_sides, found_back}
 use Rattle.outline_slab.proofs.sweep.least_pair.Goals as goal
 

@@ -1,5 +1,5 @@
 use Rattle.std.proofs.Common.{take}
-use Rattle.ratsnest.specs.Best.{IsEntering}
+use Rattle.ratsnest.specs.Inner.Best.{IsEntering}
 use Rattle.ratsnest.proofs.offers.entering.Given as goal
 
 abbrev pub invariant-each : goal.invariant-each

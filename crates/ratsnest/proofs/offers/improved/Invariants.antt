@@ -1,5 +1,5 @@
 use Rattle.std.proofs.Common.{take}
-use Rattle.ratsnest.specs.Best.{IsImproved}
+use Rattle.ratsnest.specs.Inner.Best.{IsImproved}
 use Rattle.ratsnest.proofs.offers.improved.Given as goal
 
 abbrev pub invariant-each : goal.invariant-each

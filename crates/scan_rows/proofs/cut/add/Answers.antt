@@ -1,4 +1,4 @@
-use Rattle.scan_rows.specs.Cutting.{bounds}
+use Rattle.scan_rows.specs.Inner.Cutting.{bounds}
 use Rattle.scan_rows.proofs.Pieces.{added_piece}
 use Rattle.scan_rows.proofs.cut.add.Goals as goal
 

@@ -1,7 +1,7 @@
 use Rattle.std.proofs.Common.{rules, arith}
 use Rattle.std.specs.Prelude.{ℤ, ◌≤ℤ◌, ◌<ℤ◌, ◌↔◌}
 use Rattle.std.proofs.lemmas.Int.{ints}
-use Rattle.scan_rows.specs.Cutting.{bounds}
+use Rattle.scan_rows.specs.Inner.Cutting.{bounds}
 use Rattle.scan_rows.proofs.Replaced.{with_d0, with_d1, with_s0, with_s1, with_x0, with_x1, with_y0, with_y1}
 use Rattle.scan_rows.proofs.cut.beyond.Goals as goal
 

@@ -1,6 +1,6 @@
 use Rattle.std.proofs.Common.{arith}
 use Rattle.std.proofs.lemmas.Int.{ints}
-use Rattle.scan_rows.specs.Cutting.{bounds, limit_of}
+use Rattle.scan_rows.specs.Inner.Cutting.{bounds, limit_of}
 use Rattle.scan_rows.proofs.Pieces.{cut_as}
 use Rattle.scan_rows.proofs.cut.cut_off.Goals as goal
 

@@ -1,7 +1,7 @@
 use Rattle.std.proofs.Common.{arith}
 use Rattle.std.specs.Prelude.{◌↔◌, ◌≤ℤ◌, IsTrue}
 use Rattle.std.proofs.lemmas.Int.{ints}
-use Rattle.scan_rows.specs.Cutting.{bounds}
+use Rattle.scan_rows.specs.Inner.Cutting.{bounds}
 use Rattle.scan_rows.proofs.Pieces.{ordered_by}
 use Rattle.scan_rows.proofs.cut.ordered.Goals as goal
 

@@ -2,7 +2,7 @@ use Rattle.std.proofs.Common.{arith}
 use Rattle.std.specs.Prelude.{IsTrue}
 use Rattle.std.proofs.lemmas.Int.{ints}
 use Rattle.plane.proofs.Equal.{equal}
-use Rattle.scan_rows.specs.Cutting.{bounds}
+use Rattle.scan_rows.specs.Inner.Cutting.{bounds}
 use Rattle.scan_rows.proofs.Pieces.{no_piece, piece_as, range_as}
 use Rattle.scan_rows.proofs.cut.piece_of.Goals as goal
 

@@ -1,5 +1,5 @@
 use Rattle.std.proofs.Common.{take}
-use Rattle.scan_runs.specs.Grouping.{AreStilled}
+use Rattle.scan_runs.specs.Inner.Grouping.{AreStilled}
 use Rattle.scan_runs.proofs.settle.stilled.Given as goal
 
 abbrev pub invariant-runs : goal.invariant-runs

@@ -1,5 +1,5 @@
 use Rattle.std.proofs.Common.{take}
-use Rattle.scan_runs.specs.Grouping.{AreSteps}
+use Rattle.scan_runs.specs.Inner.Grouping.{AreSteps}
 use Rattle.scan_runs.proofs.step.steps_to.Given as goal
 
 abbrev pub invariant-runs : goal.invariant-runs

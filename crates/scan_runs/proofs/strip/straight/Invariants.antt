@@ -1,5 +1,5 @@
 use Rattle.std.proofs.Common.{take}
-use Rattle.scan_runs.specs.Parts.{IsSoFar}
+use Rattle.scan_runs.specs.Inner.Parts.{IsSoFar}
 use Rattle.scan_runs.proofs.strip.straight.Given as goal
 
 abbrev pub invariant-octs : goal.invariant-octs

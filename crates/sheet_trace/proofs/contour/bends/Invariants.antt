@@ -1,6 +1,6 @@
 use Rattle.std.proofs.Common.{◌≡◌, ◌++◌, drop}
 use Rattle.sheet_trace.specs.Edges.{edge_of, edges_in}
-use Rattle.sheet_trace.specs.Visits.{bends_after}
+use Rattle.sheet_trace.specs.Inner.Visits.{bends_after}
 use Rattle.sheet_trace.proofs.contour.bends.Given as goal
 
 -- those so far and those to come are all

@@ -1,7 +1,7 @@
 use Rattle.std.proofs.Common.{◌≡◌, ◌∙◌, sym, subst, []}
 use Rattle.std.proofs.lemmas.Result.{IfOk-weaker}
-use Rattle.rings.specs.Tracing.{least_from}
-use Rattle.sheet_trace.specs.Visits.{begun_at}
+use Rattle.rings.specs.Inner.Tracing.{least_from}
+use Rattle.sheet_trace.specs.Inner.Visits.{begun_at}
 use Rattle.sheet_trace.proofs.Opens.{empty_told, some_told}
 use Rattle.sheet_trace.proofs.Rounds.{no_contour, contour_is}
 use Rattle.sheet_trace.proofs.contour.contour.Goals as goal

@@ -1,6 +1,6 @@
 use Rattle.std.proofs.Common.{◌≡◌, drop}
-use Rattle.rings.specs.Tracing.{is_less_list}
-use Rattle.sheet_trace.specs.Visits.{begun_at}
+use Rattle.rings.specs.Inner.Tracing.{is_less_list}
+use Rattle.sheet_trace.specs.Inner.Visits.{begun_at}
 use Rattle.sheet_trace.proofs.contour.is_less_from.Given as goal
 
 -- the corners so far are the same, and what is left decides

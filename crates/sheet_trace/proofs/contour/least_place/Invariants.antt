@@ -1,6 +1,6 @@
 use Rattle.std.proofs.Common.{◌≡◌, ◌≤◌, ◌-◌, drop, take, length}
-use Rattle.rings.specs.Tracing.{least_from}
-use Rattle.sheet_trace.specs.Visits.{begun_at}
+use Rattle.rings.specs.Inner.Tracing.{least_from}
+use Rattle.sheet_trace.specs.Inner.Visits.{begun_at}
 use Rattle.sheet_trace.proofs.contour.least_place.Given as goal
 
 -- the least so far, from the last place on

@@ -1,5 +1,5 @@
 use Rattle.std.proofs.Common.{◌≡◌, ◌++◌, map}
-use Rattle.sheet_trace.specs.Order.{loop_in}
+use Rattle.sheet_trace.specs.Inner.Order.{loop_in}
 use Rattle.sheet_trace.proofs.drawn_loops.loops_from.Given as goal
 
 -- those so far and those to come are all

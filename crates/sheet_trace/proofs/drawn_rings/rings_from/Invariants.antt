@@ -1,5 +1,5 @@
 use Rattle.std.proofs.Common.{◌≡◌, ◌++◌, map}
-use Rattle.sheet_trace.specs.Outlines.{corners_in}
+use Rattle.sheet_trace.specs.Inner.Outlines.{corners_in}
 use Rattle.sheet_trace.proofs.drawn_rings.rings_from.Given as goal
 
 -- those so far and those to come are all

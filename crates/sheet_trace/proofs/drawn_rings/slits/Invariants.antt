@@ -1,9 +1,9 @@
 use Rattle.std.proofs.Common.{◌≡◌, ◌++◌, drop}
-use Rattle.covering.specs.Edges.{both_ways}
+use Rattle.plane.specs.Edges.{both_ways}
 use Rattle.rings.specs.Rings.{holes_of}
-use Rattle.rings.specs.Tracing.{slits_by}
+use Rattle.rings.specs.Inner.Tracing.{slits_by}
 use Rattle.sheet_trace.specs.Edges.{edges_in}
-use Rattle.sheet_trace.specs.Order.{loops_in}
+use Rattle.sheet_trace.specs.Inner.Order.{loops_in}
 use Rattle.sheet_trace.proofs.drawn_rings.slits.Given as goal
 
 -- those so far and those to come are all

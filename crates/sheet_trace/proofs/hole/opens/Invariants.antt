@@ -1,8 +1,8 @@
 use Rattle.std.proofs.Common.{◌≡◌, drop}
-use Rattle.rings.specs.Tracing.{some_visit}
+use Rattle.rings.specs.Inner.Tracing.{some_visit}
 use Rattle.rings.specs.Walks.{visits_after}
 use Rattle.sheet_trace.specs.Edges.{edge_of, edges_in}
-use Rattle.sheet_trace.specs.Turns.{opens_at}
+use Rattle.sheet_trace.specs.Inner.Turns.{opens_at}
 use Rattle.sheet_trace.proofs.hole.opens.Given as goal
 
 -- none so far, and so one of those to come, if any

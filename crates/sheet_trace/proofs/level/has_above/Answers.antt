@@ -1,6 +1,6 @@
 use Rattle.std.proofs.Common.{sym, ◌∙◌, rules, arith}
 use Rattle.std.proofs.lemmas.List.Sorted.{IsPartitionPoint-from_clause}
-use Rattle.sheet_trace.specs.Levels.{ends_by}
+use Rattle.sheet_trace.specs.Inner.Levels.{ends_by}
 use Rattle.sheet_trace.proofs.Found.{above_partitioned, above_found, above_none, none_before}
 use Rattle.sheet_trace.proofs.level.has_above.Goals as goal
 

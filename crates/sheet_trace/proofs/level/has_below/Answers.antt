@@ -1,6 +1,6 @@
 use Rattle.std.proofs.Common.{sym, ◌∙◌, rules, arith}
 use Rattle.std.proofs.lemmas.List.Sorted.{IsPartitionPoint-from_clause}
-use Rattle.sheet_trace.specs.Levels.{begins_by}
+use Rattle.sheet_trace.specs.Inner.Levels.{begins_by}
 use Rattle.sheet_trace.proofs.Found.{below_partitioned, below_found, below_none, none_before}
 use Rattle.sheet_trace.proofs.level.has_below.Goals as goal
 

@@ -1,5 +1,5 @@
 use Rattle.std.proofs.Common.{◌≡◌, ◌++◌, ◌≤◌, ◌-◌, drop}
-use Rattle.sheet_trace.specs.Levels.{level_parts}
+use Rattle.sheet_trace.specs.Inner.Levels.{level_parts}
 use Rattle.sheet_trace.proofs.level.put_level_parts.Given as goal
 
 -- those so far and those to come are all

@@ -1,5 +1,5 @@
 use Rattle.std.proofs.Common.{◌≡◌, ◌≤◌, drop, length}
-use Rattle.rings.specs.Tracing.{is_less_list}
+use Rattle.rings.specs.Inner.Tracing.{is_less_list}
 use Rattle.sheet_trace.proofs.order.is_less.Given as goal
 
 -- the corners so far are the same, and what is left decides

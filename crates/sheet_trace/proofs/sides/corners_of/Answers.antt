@@ -1,7 +1,7 @@
 use Rattle.std.proofs.Common.{rules, arith}
 use Rattle.std.proofs.lemmas.Int.{ints}
 use Rattle.grid_num.specs.declared.Point.{Point}
-use Rattle.sheet_trace.proofs.Sorted.{sorted_by_ints}
+use Rattle.grid_num.proofs.SortedInts.{sorted_by_ints}
 use Rattle.sheet_trace.proofs.sides.corners_of.Goals as goal
 
 pub returns-clause-order : goal.returns-clause-order

@@ -1,9 +1,9 @@
 use Rattle.std.proofs.Common.{◌≡◌, ◌≤◌, length}
 use Rattle.std.specs.Prelude.{map}
-use Rattle.rings.specs.Tracing.{walks_of}
+use Rattle.rings.specs.Inner.Tracing.{walks_of}
 use Rattle.sheet_trace.specs.Edges.{edges_in}
-use Rattle.sheet_trace.specs.Order.{loops_in}
-use Rattle.sheet_trace.specs.Walked.{loop_along, drawn_from}
+use Rattle.sheet_trace.specs.Inner.Order.{loops_in}
+use Rattle.sheet_trace.specs.Inner.Walked.{loop_along, drawn_from}
 use Rattle.sheet_trace.proofs.walk.drawings.Given as goal
 
 -- those so far and those to come are all

@@ -1,6 +1,6 @@
 use Rattle.std.proofs.Common.{◌≡◌, length}
 use Rattle.sheet_trace.specs.Edges.{edges_in}
-use Rattle.sheet_trace.specs.Walked.{IsWalking}
+use Rattle.sheet_trace.specs.Inner.Walked.{IsWalking}
 use Rattle.sheet_trace.proofs.walk.walk_from.Given as goal
 
 -- the walk so far, and the flags of its edges

@@ -2,7 +2,7 @@ use Rattle.std.proofs.Common.{rules, arith}
 use Rattle.std.specs.Prelude.{◌+ℤ◌}
 use Rattle.std.proofs.lemmas.Int.{ints}
 use Rattle.strips.specs.declared.Strip.{Strip}
-use Rattle.sheet_union.proofs.FromLeft.{sorted_by_int}
+use Rattle.grid_num.proofs.SortedInts.{sorted_by_int}
 use Rattle.sheet_union.proofs.merge.from_left.Goals as goal
 
 pub returns-clause-sorted : goal.returns-clause-sorted

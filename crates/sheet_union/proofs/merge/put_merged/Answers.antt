@@ -1,7 +1,7 @@
 use Rattle.std.proofs.Common.{◌≡◌, ◌∙◌, ◌<◌, arith, length, get_or}
 use Rattle.std.specs.Prelude.{◌+ℤ◌, int_lt}
 use Rattle.std.proofs.lemmas.List.Elements.{All-push}
-use Rattle.sheet_union.specs.Near.{IsNear}
+use Rattle.sheet_union.specs.Near.{IsNearStrip}
 use Rattle.sheet_union.proofs.Joined.{test_is, near_at, near_read, put_step, join_step, zero_strip}
 use Rattle.sheet_union.proofs.merge.put_merged.Goals as goal
 use Rattle.sheet_union.proofs.merge.put_merged.Goals.{then-is_less+in_ok-push, else-is_less}
@@ -23,7 +23,7 @@ each-preserved c =
       | then-is_less+in_ok-push w ↦ record {
         strips = rw (w.out-is, w.last-is, w.in_ok-push.ensures.items) (put_step c.each.out.items _ c.each.last c.each.i c.args.runs.now zero_strip l (t ∙ w.if-is_less.true) c.each.invariant.strips);
         last = rw w.last-is n;
-        near = λ h. rw (w.out-is, w.in_ok-push.ensures.items) (All-push (λ s. IsNear s) c.each.out.items c.each.last (c.each.invariant.near h) m);
+        near = λ h. rw (w.out-is, w.in_ok-push.ensures.items) (All-push (λ s. IsNearStrip s) c.each.out.items c.each.last (c.each.invariant.near h) m);
       }
       | else-is_less w ↦ record {
         strips = rw (w.out-is, w.last-is, w.join-last.ensures.value) (join_step c.each.out.items _ c.each.last c.each.i c.args.runs.now zero_strip l (t ∙ w.if-is_less.false) c.each.invariant.strips);
@@ -33,4 +33,4 @@ each-preserved c =
     ]
 
 pub returns-clause-near : goal.returns-clause-near
-returns-clause-near c = λ h. rw c.in_ok-push-2.ensures.items (All-push (λ s. IsNear s) c.each.out.items c.each.last (c.each.invariant.near h) c.each.invariant.last)
+returns-clause-near c = λ h. rw c.in_ok-push-2.ensures.items (All-push (λ s. IsNearStrip s) c.each.out.items c.each.last (c.each.invariant.near h) c.each.invariant.last)

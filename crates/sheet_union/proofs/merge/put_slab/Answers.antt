@@ -1,10 +1,10 @@
 use Rattle.std.proofs.lemmas.List.Sorted.{All-permutation}
-use Rattle.sheet_union.specs.Near.{IsNear}
+use Rattle.sheet_union.specs.Near.{IsNearStrip}
 use Rattle.sheet_union.proofs.Runs.{slab_added}
 use Rattle.sheet_union.proofs.merge.put_slab.Goals as goal
 
 pub put_merged-requires : goal.put_merged-requires
-put_merged-requires c = rw c.deref.ensures.value (All-permutation (λ s. IsNear s) _ _ c.in_ok-runs.ensures.order c.in_ok-runs_of.ensures.near)
+put_merged-requires c = rw c.deref.ensures.value (All-permutation (λ s. IsNearStrip s) _ _ c.in_ok-runs.ensures.order c.in_ok-runs_of.ensures.near)
 
 pub returns-clause-slab : goal.returns-clause-slab
 returns-clause-slab c =

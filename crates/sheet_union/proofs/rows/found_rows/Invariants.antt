@@ -1,6 +1,6 @@
 use Rattle.std.proofs.Common.{◌≡◌, ◌++◌, drop}
 use Rattle.plane.specs.Plane.{IsOct}
-use Rattle.sheet_union.specs.Crossings.{all_rows}
+use Rattle.sheet_union.specs.Inner.Crossings.{all_rows}
 use Rattle.sheet_union.proofs.Walks.{EachBelow}
 use Rattle.sheet_union.proofs.rows.found_rows.Given as goal
 

@@ -1,5 +1,5 @@
 use Rattle.std.proofs.Common.{◌≡◌, ◌++◌, drop}
-use Rattle.sheet_union.specs.Crossings.{later_rows}
+use Rattle.sheet_union.specs.Inner.Crossings.{later_rows}
 use Rattle.sheet_union.proofs.rows.put_later.Given as goal
 
 -- the rows so far and those to come are all

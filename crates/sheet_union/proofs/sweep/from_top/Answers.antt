@@ -1,7 +1,7 @@
 use Rattle.std.proofs.Common.{rules, arith}
 use Rattle.std.proofs.lemmas.Int.{ints}
 use Rattle.plane.specs.Plane.{Bounds}
-use Rattle.sheet_union.proofs.FromLeft.{sorted_by_int}
+use Rattle.grid_num.proofs.SortedInts.{sorted_by_int}
 use Rattle.sheet_union.proofs.sweep.from_top.Goals as goal
 
 pub returns-clause-sorted : goal.returns-clause-sorted

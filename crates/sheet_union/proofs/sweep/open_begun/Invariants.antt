@@ -1,5 +1,5 @@
 use Rattle.std.proofs.Common.{◌≡◌, ◌≤◌, ◌++◌, ◌-◌, length, drop}
-use Rattle.sheet_union.specs.Sweep.{begun, waiting}
+use Rattle.sheet_union.specs.Inner.Sweep.{begun, waiting}
 use Rattle.sheet_union.proofs.sweep.open_begun.Given as goal
 
 -- what is opened so far and from the place on is all; what waits is the same from there on

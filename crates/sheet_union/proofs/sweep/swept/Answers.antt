@@ -2,7 +2,7 @@ use Rattle.std.proofs.Common.{arith, get_or}
 use Rattle.std.specs.Prelude.{pos}
 use Rattle.std.proofs.lemmas.List.Elements.{All-nil}
 use Rattle.strips.specs.Strips.{in_nanometres}
-use Rattle.sheet_union.specs.Near.{IsNear}
+use Rattle.sheet_union.specs.Near.{IsNearStrip}
 use Rattle.sheet_union.proofs.State.{first_state, so_far_start}
 use Rattle.sheet_union.proofs.Sweeping.{top_is, bottom_is, state_step, open_step, strips_step, strips_end}
 use Rattle.sheet_union.proofs.sweep.swept.Goals as goal
@@ -12,7 +12,7 @@ slab-init c = record {
   state = rw c.new-open.ensures.items (first_state c.args.octs.now (get_or c.args.rows.now 0 (pos 0)) c.requires.octs);
   within = omega arith;
   strips = rw c.new-strips.ensures.items (so_far_start (in_nanometres c.args.octs.now) c.args.rows.now);
-  near = rw c.new-strips.ensures.items (All-nil (λ s. IsNear s));
+  near = rw c.new-strips.ensures.items (All-nil (λ s. IsNearStrip s));
 }
 
 pub open_begun-requires : goal.open_begun-requires

@@ -1,2 +1,0 @@
-pub mod GridPoints
-pub mod Brushed

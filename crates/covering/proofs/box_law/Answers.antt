@@ -1,5 +1,0 @@
-use Rattle.covering.proofs.Repeats.{box_cover_law, strict_box_cover_law}
-use Rattle.covering.proofs.box_law.Goals as goal
-
-pub returns : goal.returns
-returns c = record { points = box_cover_law; inner = strict_box_cover_law }

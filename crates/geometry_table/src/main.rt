@@ -1,0 +1,105 @@
+//! The program `geometry_table`: it reads a table of geometry, line by line, and prints what the calls answer.
+//! Nothing stands above it: what it prints is compared with `stdout`, which was worked out by hand or by scripts of bench/.
+//! A line begins with a word that says what is asked. Octagons are in units of 2 nm, corners in nanometres, cores in halves.
+#![tactic(auto)]
+
+mod cores_pair;
+mod outlines;
+mod piece;
+mod sheets;
+mod words;
+
+use geometry_tests::shapes::{octagon, sheet};
+use grid_num::Point;
+use std::alloc::{AllocError, Global};
+use std::io;
+
+/// What the lines so far have put down.
+#[derive(Drop)]
+struct Table {
+    octagons: Vec<[i32; 8]>,
+    corners: Vec<Point>,
+}
+
+impl Table {
+    fn clear(&mut self, alloc: Global) -> String {
+        self.octagons = Vec::new(alloc);
+        String::new(alloc)
+    }
+}
+
+// What a line about the octagons answers.
+fn of_octagons(alloc: Global, table: &Table, command: &str) -> Result<Option<String>, AllocError> {
+    let Some(sheet) = sheet(alloc, table.octagons.as_slice())? else {
+        return Ok(None);
+    };
+    match command {
+        "strips" => sheets::strips(alloc, &sheet),
+        "area2" => sheets::area2(alloc, &sheet),
+        "edges" => sheets::edges(alloc, &sheet),
+        "loops" => sheets::loops(alloc, &sheet),
+        "rings" => sheets::rings(alloc, &sheet),
+        _ => Ok(None),
+    }
+}
+
+// Puts an octagon down; says so if it has no points strictly inside.
+fn put_octagon(
+    alloc: Global,
+    table: &mut Table,
+    words: &[&str],
+) -> Result<Option<String>, AllocError> {
+    let Some(bounds) = words::bounds(words) else {
+        return Ok(None);
+    };
+    if octagon(bounds).is_none() {
+        return Ok(Some(format!(in alloc; "no inside\n")?));
+    }
+    table.octagons.push(bounds)?;
+    Ok(Some(String::new(alloc)))
+}
+
+// Puts the corners of an outline down.
+fn put_outline(
+    alloc: Global,
+    table: &mut Table,
+    words: &[&str],
+) -> Result<Option<String>, AllocError> {
+    table.corners = words::corners(alloc, words)?;
+    outlines::made(alloc, table.corners.as_slice())
+}
+
+// What a line answers; None where it is none of the table's.
+fn answer(alloc: Global, table: &mut Table, line: &str) -> Result<Option<String>, AllocError> {
+    let words: Vec<&str> = line.split_whitespace().collect(alloc)?;
+    let Some((command, rest)) = words.split_first() else {
+        return Ok(None);
+    };
+    match *command {
+        "#" => Ok(Some(format!(in alloc; "{line}\n")?)),
+        "clear" => Ok(Some(table.clear(alloc))),
+        "octagon" => put_octagon(alloc, table, rest),
+        "cores" => cores_pair::touching(alloc, rest),
+        "hull" => piece::hull(alloc, rest),
+        "outline" => put_outline(alloc, table, rest),
+        "place" => outlines::place(alloc, table.corners.as_slice(), rest),
+        "cover" => outlines::cover(alloc, table.corners.as_slice(), rest),
+        other => of_octagons(alloc, table, other),
+    }
+}
+
+fn main(rt: HostRuntime) -> io::Result<()> {
+    let alloc = rt.alloc();
+    let mut table = Table {
+        octagons: Vec::new(alloc),
+        corners: Vec::new(alloc),
+    };
+    for line in rt.lines(alloc) {
+        let line = line?;
+        match answer(alloc, &mut table, line.as_str())? {
+            Some(text) => print!(rt; "{text}")?,
+            None => println!(rt; "not understood: {line}")?,
+        }
+    }
+    Ok(())
+}

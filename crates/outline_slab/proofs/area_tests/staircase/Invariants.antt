@@ -1,6 +1,0 @@
-use Rattle.std.specs.List.{All}
-use Rattle.outline_slab.specs.Rules.{IsInSpan}
-use Rattle.outline_slab.proofs.area_tests.staircase.Given as goal
-
-abbrev pub invariant-step : goal.invariant-step
-invariant-step l = All IsInSpan l.points.items

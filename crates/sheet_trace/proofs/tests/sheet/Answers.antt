@@ -1,4 +1,0 @@
-use Rattle.sheet_trace.proofs.tests.sheet.Goals as goal
-
-pub of-requires : goal.of-requires
-of-requires c = rw c.deref.ensures.value c.in_ok-octs.ensures
