@@ -4,9 +4,9 @@ use Rattle.std.specs.Prelude.{codes}
 use Rattle.std.specs.List.{list_any}
 use Rattle.std.proofs.lemmas.Simd.{map-map}
 use Rattle.sexpr_text.specs.Items.{Item, is_headed}
-use Rattle.text_items.specs.Parts.{Part, part_of}
-use Rattle.board_language.specs.Numbers.{first_of, point_fault, is_short}
-use Rattle.board_language.specs.Items.{point_at}
+use Rattle.sexpr_text.specs.Parts.{Part, part_of}
+use Rattle.board_text.specs.Numbers.{first_of, point_fault, is_short}
+use Rattle.board_text.specs.Items.{point_at}
 
 any_map : (test : Part → Bool) (bytes : List ℕ) (xs : List Item) → list_any test (map (part_of bytes) xs) ≡ list_any (λ x. test (part_of bytes x)) xs
 any_map test bytes [] = refl

@@ -5,7 +5,7 @@ use Rattle.std.proofs.lemmas.Bool.{false≢true, eqb-true}
 use Rattle.grid_num.specs.declared.Point.{Point}
 use Rattle.copper_shape.specs.declared.edge.Edge.{Edge}
 use Rattle.board_language.specs.Edges.{sides_to, sides_of, straight}
-use Rattle.board_parts.proofs.Walks.{drop_here, drop_past}
+use Rattle.board_text.proofs.Walks.{drop_here, drop_past}
 
 behind : (cs : List Point) (k : ℕ) (z : Point) → get_or (drop (k + 1) cs) 0 z ≡ get_or cs (k + 1) z
 behind cs k z = get_drop cs (k + 1) z

@@ -1,14 +1,14 @@
 // The edges of a drawing.
 ghost use Rattle.std.specs.Prelude.{◌≡◌, ◌+◌, ◌<◌, ◌∷◌, [], length, map, codes, slice_index_or, IfOk};
-ghost use Rattle.board_language.specs.Edges.{edges_as, edges_of, rectangle_corners, sides_of, straight, corner_lists};
-ghost use Rattle.board_language.specs.Items.{point_at, point_in};
+ghost use Rattle.board_language.specs.Edges.{edges_as, edges_read, rectangle_corners, sides_of, straight, corner_lists};
+ghost use Rattle.board_text.specs.Items.{point_at, point_in};
 ghost use Rattle.board_language.specs.declared.EdgeForm.TheVariants.{Line, Rectangle, Arc, Polygon, Other};
 
 use crate::form::{corner_lists, form_of};
 use crate::kind::is_edge;
 use board_items::points_of;
 use board_language::{Edge, EdgeForm};
-use board_parts::Part;
+use board_text::Part;
 use grid_num::{Memory, Point};
 use std::alloc::Global;
 
@@ -95,9 +95,9 @@ fn polygon_of(alloc: Global, item: &Part<'_>) -> Result<Vec<Edge>, Memory>
 /// # Errors
 ///
 /// Want of memory.
-#[tactic(auto, unfolding(board_language::specs::Edges::edges_of))]
+#[tactic(auto, unfolding(board_language::specs::Edges::edges_read))]
 pub fn edges_of(alloc: Global, item: &Part<'_>) -> Result<Vec<Edge>, Memory>
-    ensures { IfOk result (λ v. v.items ≡ edges_of item.now.bytes item.now.item) }
+    ensures { IfOk result (λ v. v.items ≡ edges_read item.now.bytes item.now.item) }
 {
     if !is_edge(alloc, item)? {
         return Ok(Vec::new(alloc));

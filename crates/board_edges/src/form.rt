@@ -1,14 +1,14 @@
 // What kind of edge a drawing is, and the points that it needs.
 ghost use Rattle.std.specs.Prelude.{◌≡◌, ◌||◌, ◌∷◌, [], not, map, codes, Some, IfOk};
 ghost use Rattle.std.specs.List.{list_any};
-ghost use Rattle.text_items.specs.Parts.{part_of};
-ghost use Rattle.board_language.specs.Fields.{list_of};
-ghost use Rattle.board_language.specs.Numbers.{first_of, point_fault, is_short};
+ghost use Rattle.sexpr_text.specs.Parts.{part_of};
+ghost use Rattle.board_text.specs.Fields.{list_of};
+ghost use Rattle.board_text.specs.Numbers.{first_of, point_fault, is_short};
 ghost use Rattle.board_language.specs.Edges.{form_of, corner_lists, lacks_point, lacks_points, edge_fault};
 
 use board_items::{has_short_point, points_fault};
 use board_language::EdgeForm;
-use board_parts::{Part, first_of};
+use board_text::{Part, first_of};
 use grid_num::{Memory, NumFault};
 use std::alloc::Global;
 

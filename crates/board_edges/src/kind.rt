@@ -3,17 +3,15 @@ ghost use Rattle.std.specs.Prelude.{◌≡◌, ◌&&◌, cond, not, map, codes, 
 ghost use Rattle.std.specs.List.{list_any};
 ghost use Rattle.sexpr_text.specs.Items.{is_headed};
 ghost use Rattle.board_language.specs.Edges.{is_edge, is_on_copper, is_wide, is_unread, is_curved, corner_lists, edge_fault, lacks_points};
-ghost use Rattle.board_language.specs.Items.{point_in};
+ghost use Rattle.board_text.specs.Items.{point_in};
 ghost use Rattle.board_language.specs.Offences.{drawing_kind, footprint_drawing_kind};
 ghost use Rattle.board_items.specs.Known.{context};
 
 use crate::form::{corner_lists, edge_fault, form_of, lacks_points};
 use crate::wide::is_wide;
-use board_items::{
-    Known, first_kind, has_other_point, is_on_copper, is_on_edge, number_kind, when,
-};
-use board_language::{EdgeForm, OffenceKind};
-use board_parts::Part;
+use board_items::{Known, has_other_point, is_on_copper, is_on_edge};
+use board_language::{EdgeForm, OffenceKind, first_kind, number_kind, when};
+use board_text::Part;
 use grid_num::{Memory, NumFault};
 use std::alloc::Global;
 

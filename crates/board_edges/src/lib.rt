@@ -6,8 +6,6 @@
 mod edges;
 mod form;
 mod kind;
-#[cfg(test)]
-mod tests;
 mod wide;
 
 pub use edges::edges_of;

@@ -1,7 +1,7 @@
 -- How many of a list stand before the first that passes.
 use Rattle.std.proofs.Common.{◌≡◌, ℕ, ◌+◌, ◌<◌, ◌≤◌, Bool, true, false, cond, List, [], ◌∷◌, length, map, drop, get_or, refl, ap, ◌∙◌, arith}
 use Rattle.std.specs.List.{prefix_len}
-use Rattle.board_parts.proofs.Walks.{drop_here, drop_past}
+use Rattle.board_text.proofs.Walks.{drop_here, drop_past}
 
 prefix_map : {V W : Type 0} (p : W → Bool) (f : V → W) (xs : List V) → prefix_len p (map f xs) ≡ prefix_len (λ x. p (f x)) xs
 prefix_map p f [] = refl

@@ -3,8 +3,8 @@ use Rattle.std.proofs.Common.{◌≡◌, ℕ, zero, suc, ◌+◌, ◌-◌, ◌*�
 use Rattle.std.specs.Prelude.{◌^◌, None}
 use Rattle.std.proofs.lemmas.List.{length-drop, length-map}
 use Rattle.std.proofs.lemmas.Simd.{map-map}
-use Rattle.board_language.specs.Layers.{bits, between_from, is_between, layer_set}
-use Rattle.board_parts.proofs.Walks.{drop_here, drop_past}
+use Rattle.board_text.specs.Layers.{bits, between_from, is_between, layer_set}
+use Rattle.board_text.proofs.Walks.{drop_here, drop_past}
 
 -- n bits make a number below 2 ^ n
 pub bits_below : (bs : List Bool) (n : ℕ) → length bs ≤ n → bits bs < 2 ^ n

@@ -2,8 +2,8 @@
 use Rattle.std.proofs.Common.{◌≡◌, ℕ, ◌+◌, ◌-◌, ◌<◌, ◌≤◌, Bool, true, false, ◌||◌, List, length, map, take, drop, get_or, sym, ap, ◌∙◌}
 use Rattle.std.proofs.Math.Seq.{take-length}
 use Rattle.std.proofs.lemmas.List.{length-drop}
-use Rattle.board_language.specs.Layers.{Name, is_among, has_double}
-use Rattle.board_parts.proofs.Walks.{drop_here, drop_past}
+use Rattle.board_text.specs.Layers.{Name, is_among, has_double}
+use Rattle.board_text.proofs.Walks.{drop_here, drop_past}
 
 -- all that is left behind a place
 rest_is : {V : Type 0} (xs : List V) (k : ℕ) → take (length xs - k) (drop k xs) ≡ drop k xs

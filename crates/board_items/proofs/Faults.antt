@@ -3,8 +3,8 @@ use Rattle.std.proofs.Common.{◌≡◌, ℕ, ◌+◌, ◌<◌, ◌≤◌, true,
 use Rattle.std.specs.Option.{option_or}
 use Rattle.std.proofs.lemmas.Bool.{false≢true}
 use Rattle.grid_num.specs.declared.read.NumFault.{NumFault}
-use Rattle.board_language.specs.Numbers.{first_of}
-use Rattle.board_parts.proofs.Walks.{drop_here, drop_past}
+use Rattle.board_text.specs.Numbers.{first_of}
+use Rattle.board_text.proofs.Walks.{drop_here, drop_past}
 
 split : {V : Type 0} (f : V → Option NumFault) (xs : List V) (k : ℕ) (x : V) → k < length xs → ((d : V) → x ≡ get_or xs k d) → first_of (map f (drop k xs)) ≡ option_or (f x) (first_of (map f (drop (k + 1) xs)))
 split f xs k x l e = ap (λ ys. first_of (map f ys)) (drop_here xs k x l e)

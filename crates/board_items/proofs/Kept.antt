@@ -1,7 +1,7 @@
 -- Walking over names: those that are kept, and what each of them means.
 use Rattle.std.proofs.Common.{◌≡◌, ℕ, ◌+◌, ◌<◌, ◌≤◌, Bool, true, false, List, [], ◌∷◌, ◌++◌, length, map, drop, filter, flat_map, get_or, refl, sym, ap, ◌∙◌, append_assoc, append-nil}
 use Rattle.std.proofs.lemmas.List.{map-append}
-use Rattle.board_parts.proofs.Walks.{drop_here, drop_past}
+use Rattle.board_text.proofs.Walks.{drop_here, drop_past}
 
 filter_yes : {W : Type 0} (p : W → Bool) (x : W) (xs : List W) → p x ≡ true → filter p (x ∷ xs) ≡ x ∷ filter p xs
 filter_yes p x xs e = rw e refl

@@ -1,4 +1,3 @@
-pub mod FirstKind
 pub mod Before
 pub mod Faults
 pub mod Bits

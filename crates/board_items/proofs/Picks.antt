@@ -3,8 +3,8 @@ use Rattle.std.proofs.Common.{◌≡◌, ℕ, ◌+◌, ◌<◌, ◌≤◌, Bool,
 use Rattle.std.specs.Prelude.{codes}
 use Rattle.std.specs.List.{cons_option}
 use Rattle.sexpr_text.specs.Items.{Item, children_of, is_headed}
-use Rattle.board_language.specs.Items.{declared_net, declared_nets}
-use Rattle.board_parts.proofs.Walks.{drop_here, drop_past}
+use Rattle.board_text.specs.Items.{declared_net, declared_nets}
+use Rattle.board_text.proofs.Walks.{drop_here, drop_past}
 
 pub pick_more : {X W : Type 0} (f : X → Option W) (xs : List X) (k : ℕ) (done all : List W) (x : X) (w : W) → k < length xs → ((d : X) → x ≡ get_or xs k d) → Some w ≡ f x
     → done ++ filter_map f (drop k xs) ≡ all → (done ++ w ∷ []) ++ filter_map f (drop (k + 1) xs) ≡ all

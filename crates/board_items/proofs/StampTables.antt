@@ -9,8 +9,8 @@ use Rattle.std.proofs.Math.Bool.{or_assoc}
 use Rattle.std.proofs.lemmas.Bool.{false≢true}
 use Rattle.std.proofs.lemmas.List.{map-append}
 use Rattle.std.proofs.lemmas.List.Folds.{list_any-append}
-use Rattle.board_language.specs.Layers.{Name, is_among}
-use Rattle.board_items.specs.declared.stamps.Stamped.{Stamped}
+use Rattle.board_text.specs.Layers.{Name, is_among}
+use Rattle.board_text.specs.declared.stamped.Stamped.{Stamped}
 use Rattle.board_items.specs.Stamps.{Table, stamped, stamps_of, with_stamp, with_stamps}
 
 abbrev pub pairs : {V : Type 0} → (V → Name) → List (V × Stamped) → Table

@@ -1,7 +1,7 @@
 -- Numbers that are found by a set.
 use Rattle.std.specs.Prelude.{◌≡◌, ℕ, nat_eq, List}
 use Rattle.std.specs.List.{list_any}
-use Rattle.board_language.specs.Items.{has_number}
+use Rattle.board_text.specs.Items.{has_number}
 
 -- the keys have just these numbers
 abbrev pub AreFound : List ℕ → List ℕ → Type 0

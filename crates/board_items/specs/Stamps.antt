@@ -1,12 +1,14 @@
 -- Stamps, each with the thing that it belongs to. Of two things with the same stamp the first counts.
 use Rattle.std.specs.Prelude.{List, [], ◌∷◌, ◌++◌, map, if◌then◌else◌, Option, None, Some}
 use Rattle.std.specs.Str.{bytes_eq}
-use Rattle.board_language.specs.Layers.{Name, is_among}
-use Rattle.board_items.specs.declared.stamps.Stamped.{Stamped}
+use Rattle.board_text.specs.Layers.{Name, is_among}
+use Rattle.board_text.specs.declared.stamped.Stamped.{Stamped}
 
+-- stamps in their order, each with its thing
 abbrev pub Table : Type 0
 Table = List (Name × Stamped)
 
+-- the stamps of a table alone
 abbrev pub stamps_of : Table → List Name
 stamps_of table = map (λ p. p.0) table
 

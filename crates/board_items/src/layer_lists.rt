@@ -1,11 +1,11 @@
 // Lists of layers, as pads, zones and rule areas have them.
 ghost use Rattle.std.specs.Prelude.{◌≡◌, ℕ, ◌≤◌, ◌∷◌, [], ◌||◌, List, cond, not, filter, flat_map, length, map, None, Some, IfOk};
 ghost use Rattle.std.specs.List.{list_any};
-ghost use Rattle.board_language.specs.Layers.{bits, has_copper, has_unknown, is_among, is_outer, layer_set, meant_by, meant_in};
+ghost use Rattle.board_text.specs.Layers.{bits, has_copper, has_unknown, is_among, is_outer, layer_set, meant_by, meant_in};
 
 use crate::layers::is_copper;
-use crate::{Known, Names};
-use board_parts::{Part, has_text};
+use crate::{Known, LayerNames};
+use board_text::{Part, has_text};
 use grid_num::Memory;
 use std::alloc::Global;
 
@@ -51,7 +51,7 @@ fn alone(alloc: Global, name: &[u8]) -> Result<Vec<Vec<u8>>, Memory>
 /// # Errors
 ///
 /// Want of memory.
-#[tactic(auto, unfolding(board_language::specs::Layers::meant_by))]
+#[tactic(auto, unfolding(board_text::specs::Layers::meant_by))]
 pub fn meant_by(alloc: Global, copper: &[Vec<u8>], name: &[u8]) -> Result<Vec<Vec<u8>>, Memory>
     ensures { IfOk result (λ v. map (λ t. t.items) v.items ≡ meant_by (map (λ t. t.items) copper.now) name.now) }
 {
@@ -108,7 +108,7 @@ pub fn has_copper(alloc: Global, known: &Known, list: &Part<'_>) -> Result<bool,
     Ok(meant.len() != 0)
 }
 
-fn has_other(copper: &Names, meant: &[Vec<u8>]) -> bool
+fn has_other(copper: &LayerNames, meant: &[Vec<u8>]) -> bool
     ensures { result ≡ list_any (λ name. not (is_among copper.now name)) (map (λ t. t.items) meant.now) }
 {
     'each: for name in meant {
@@ -157,7 +157,7 @@ fn set_of(copper: &[Vec<u8>], meant: &[Vec<u8>]) -> u32
 /// # Errors
 ///
 /// Want of memory.
-#[tactic(auto, unfolding(board_language::specs::Layers::layer_set))]
+#[tactic(auto, unfolding(board_text::specs::Layers::layer_set))]
 pub fn layer_set(alloc: Global, known: &Known, list: &Part<'_>) -> Result<u32, Memory>
     requires few { length known.now.copper ≤ 32 }
     ensures { IfOk result (λ set. set ≡ layer_set list.now.bytes known.now.copper (Some list.now.item)) }

@@ -1,12 +1,35 @@
-// The names of layers in a drawing.
+// The names of layers in a list of an item.
 ghost use Rattle.std.specs.Prelude.{◌≡◌, map, IfOk};
 ghost use Rattle.std.specs.List.{list_any};
-ghost use Rattle.board_language.specs.Layers.{is_copper, is_drawn_on, is_edge_name};
+ghost use Rattle.board_text.specs.Layers.{is_copper, is_drawn_on, is_edge_name, layer_names, name_at};
 
-use crate::track::layer_names;
-use board_parts::{Part, has_text};
+use board_text::{Part, has_text};
 use grid_num::Memory;
 use std::alloc::Global;
+
+/// The contents of the names in the list with this head.
+///
+/// # Errors
+///
+/// Want of memory.
+pub fn layer_names(alloc: Global, item: &Part<'_>, head: &[u8]) -> Result<Vec<Vec<u8>>, Memory>
+    ensures { IfOk result (λ v. map (λ t. t.items) v.items ≡ layer_names item.now.bytes head.now item.now.item) }
+{
+    match item.list(head) {
+        Some(list) => list.texts(alloc),
+        None => Ok(Vec::new(alloc)),
+    }
+}
+
+/// The name at a place; the empty one where there is none.
+pub fn name_at(names: &[Vec<u8>], place: usize) -> &[u8]
+    ensures { result.now ≡ name_at place (map (λ t. t.items) names.now) }
+{
+    match names.get(place) {
+        Some(name) => name.as_slice(),
+        None => b"",
+    }
+}
 
 /// Whether a layer of this name is of copper.
 pub fn is_copper(name: &[u8]) -> bool

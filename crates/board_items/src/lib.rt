@@ -1,6 +1,6 @@
-//! The items of a board, each read and tried by itself: what `board_language` says of a track, a via, a pad, a zone, an
-//! edge. The layer above uses each reading and the first offence of each kind of item, exactly as defined there.
-//! Lengths and places are nanometres, shapes are halves of a nanometre.
+//! What stands in the text of a board that needs no geometry: its layers and nets, lists of layers, points and lengths, the
+//! stamps, and what each list is. The layer above uses each reading exactly as `board_text` defines it.
+//! Lengths and places are nanometres.
 #![tactic(auto)]
 
 mod layer_lists;
@@ -13,34 +13,26 @@ mod root;
 mod sizes;
 mod stack;
 mod stamps;
-#[cfg(test)]
-mod tests;
-mod tests_of;
 mod thing;
-mod track;
 
 pub use layer_lists::{has_copper, has_unknown, layer_set, meant_by, meant_in, no_layers_law};
-pub use layers::{is_copper, is_on_copper, is_on_edge};
-pub use lists::{has_bad_length, has_short, is_bad_length, lacks};
-pub use names::Names;
+pub use layers::{is_copper, is_on_copper, is_on_edge, layer_names, name_at};
+pub use lists::{has_bad_length, has_bad_size, has_short, is_bad_length, lacks};
+pub use names::LayerNames;
 pub use numbers::Numbers;
 pub use points::{has_other_point, has_short_point, points_fault, points_of};
-pub use root::{board_kind, declared_net, declared_nets, known_of, net_kind, stamp_in};
+pub use root::{declared_net, declared_nets, is_unknown_net, known_of, stamp_in};
 pub use sizes::{is_no_length, is_no_size, size_of};
 pub use stack::{
-    copper_names, is_between, is_layer, layer_fault, layers_between, layers_kind, name_of_layer,
+    copper_among, copper_names, has_double, is_between, is_layer, lacks_name, layer_fault,
+    layers_between, layers_fault, layers_in, name_of_layer, names_of_layers,
 };
-pub use stamps::{Stamped, Stamps, stamps_law};
-pub use tests_of::{first_kind, number_kind, when};
+pub use stamps::{Stamps, stamps_law};
 pub use thing::{Own, Thing, thing_in_footprint, thing_on_board};
-pub use track::{
-    has_bad_size, is_unknown_net, layer_names, name_at, track_fault, track_kind, track_of,
-    via_fault, via_kind, via_of,
-};
 
 /// What holds for the whole board: its copper layers in their order, and its nets.
 #[derive(Drop)]
 pub struct Known {
-    pub copper: Names,
+    pub copper: LayerNames,
     pub nets: Numbers,
 }

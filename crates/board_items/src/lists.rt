@@ -1,11 +1,11 @@
 // Several lists of an item, by their heads.
 ghost use Rattle.std.specs.Prelude.{◌≡◌, ℕ, map, IfOk};
-ghost use Rattle.board_language.specs.Items.{is_bad_length};
-ghost use Rattle.board_language.specs.Offences.{lacks, has_short, has_bad_length};
-ghost use Rattle.board_language.specs.Fields.{list_of};
+ghost use Rattle.board_text.specs.Items.{is_bad_length, has_bad_length, has_bad_size};
+ghost use Rattle.board_text.specs.Fields.{lacks, list_of};
+ghost use Rattle.board_text.specs.Numbers.{has_short};
 
-use crate::sizes::is_no_length;
-use board_parts::Part;
+use crate::sizes::{is_no_length, is_no_size};
+use board_text::Part;
 use grid_num::Memory;
 use std::alloc::Global;
 
@@ -59,4 +59,16 @@ pub fn has_bad_length(alloc: Global, item: &Part<'_>, names: &[&[u8]]) -> Result
         }
     }
     Ok(false)
+}
+
+/// Whether a width or size is out of its range.
+///
+/// # Errors
+///
+/// Want of memory.
+pub fn has_bad_size(alloc: Global, item: &Part<'_>, name: &[u8]) -> Result<bool, Memory>
+    ensures { IfOk result (λ yes. yes ≡ has_bad_size item.now.bytes name.now item.now.item) }
+{
+    let size = item.length_in(alloc, name)?;
+    Ok(is_no_size(size))
 }

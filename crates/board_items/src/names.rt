@@ -1,19 +1,19 @@
-// Names in their order, to be looked up.
+// LayerNames in their order, to be looked up.
 ghost use Rattle.std.specs.Prelude.{◌≡◌, ◌≤◌, ◌++◌, ◌∷◌, [], length, map, OnOk, OnErr};
-ghost use Rattle.board_language.specs.Layers.{is_among, layer_number};
+ghost use Rattle.board_text.specs.Layers.{is_among, layer_number};
 
-use board_parts::has_text;
+use board_text::has_text;
 use grid_num::Memory;
 use std::alloc::Global;
 use std::marker::Model;
 
-/// Names in their order. Contracts see the list.
+/// LayerNames in their order. Contracts see the list.
 #[derive(Drop)]
-pub struct Names {
+pub struct LayerNames {
     names: Vec<Vec<u8>>,
 }
 
-impl Model for Names {
+impl Model for LayerNames {
     ghost use Rattle.std.specs.Prelude.{ℕ, List, map};
 
     ghost Value = { List (List ℕ) };
@@ -21,12 +21,12 @@ impl Model for Names {
     ghost view = { λ n. map (λ v. v.items) n.names.items };
 }
 
-impl Names {
+impl LayerNames {
     /// No names.
-    pub fn new(alloc: Global) -> Names
+    pub fn new(alloc: Global) -> LayerNames
         ensures { result ≡ [] }
     {
-        Names {
+        LayerNames {
             names: Vec::new(alloc),
         }
     }

@@ -1,6 +1,6 @@
 // Numbers, to be looked up.
 ghost use Rattle.std.specs.Prelude.{◌≡◌, ◌++◌, ◌∷◌, [], length, OnOk, OnErr};
-ghost use Rattle.board_language.specs.Items.{has_number};
+ghost use Rattle.board_text.specs.Items.{has_number};
 
 use grid_num::Memory;
 use indexmap::IndexSet;

@@ -3,10 +3,10 @@ ghost use Rattle.std.specs.Prelude.{◌≡◌, not, map, codes, Some, IfOk};
 ghost use Rattle.std.specs.List.{All, list_any};
 ghost use Rattle.sexpr_text.specs.Items.{is_headed};
 ghost use Rattle.grid_num.specs.Length.{IsInRange};
-ghost use Rattle.board_language.specs.Numbers.{first_of, is_short, point_fault};
-ghost use Rattle.board_language.specs.Items.{point_at};
+ghost use Rattle.board_text.specs.Numbers.{first_of, is_short, point_fault};
+ghost use Rattle.board_text.specs.Items.{point_at};
 
-use board_parts::Part;
+use board_text::Part;
 use grid_num::{Memory, NumFault, Point};
 use std::alloc::Global;
 

@@ -1,91 +1,14 @@
-// The board itself, its layers and its nets.
-ghost use Rattle.std.specs.Prelude.{◌≡◌, ◌∷◌, [], not, ◌&&◌, nat_lt, is_none, length, map, cond, filter_map, option_map, codes, None, Some, IfOk};
-ghost use Rattle.std.specs.List.{list_any};
-ghost use Rattle.board_language.specs.Fields.{list_of};
-ghost use Rattle.board_language.specs.Numbers.{whole_fault_at, value_at, whole_number};
-ghost use Rattle.board_language.specs.Offences.{is_version, is_version_number, board_kind, net_kind};
-ghost use Rattle.board_language.specs.Items.{declared_net, declared_nets, stamp_in};
-ghost use Rattle.board_language.specs.Reading.{context_of};
+// What holds for the whole board: its copper layers and its nets.
+ghost use Rattle.std.specs.Prelude.{◌≡◌, cond, filter_map, option_map, codes, None, IfOk};
+ghost use Rattle.board_text.specs.Items.{context_of, declared_net, declared_nets, is_unknown_net, net_of, stamp_in};
 ghost use Rattle.sexpr_text.specs.Items.{is_headed};
 ghost use Rattle.board_items.specs.Known.{context};
 
 use crate::stack::copper_names;
-use crate::tests_of::{first_kind, number_kind, when};
 use crate::{Known, Numbers};
-use board_language::OffenceKind;
-use board_parts::{Part, whole_fault, whole_number};
+use board_text::{Part, whole_number};
 use grid_num::Memory;
 use std::alloc::Global;
-
-fn is_version_number(number: u32) -> bool
-    ensures { result ≡ is_version_number number }
-{
-    20211013 < number && number < 20221019
-}
-
-/// Whether a `version` has a whole number from KiCad 6 to KiCad 7.
-fn is_version_list(alloc: Global, list: &Part<'_>) -> Result<bool, Memory>
-    ensures { IfOk result (λ yes. yes ≡ is_version list.now.bytes (Some list.now.item)) }
-{
-    match list.text_at(alloc, 0)? {
-        Some(text) => Ok(whole_fault(&text).is_none() && is_version_number(whole_number(&text))),
-        None => Ok(false),
-    }
-}
-
-fn has_version(alloc: Global, board: &Part<'_>) -> Result<bool, Memory>
-    ensures { IfOk result (λ yes. yes ≡ is_version board.now.bytes (list_of board.now.bytes (codes "version") board.now.item)) }
-{
-    match board.list(b"version") {
-        Some(list) => is_version_list(alloc, &list),
-        None => Ok(false),
-    }
-}
-
-/// The first offence of the board itself.
-///
-/// # Errors
-///
-/// Want of memory.
-#[tactic(auto, unfolding(board_language::specs::Offences::board_kind))]
-pub fn board_kind(
-    alloc: Global,
-    known: &Known,
-    board: &Part<'_>,
-) -> Result<Option<OffenceKind>, Memory>
-    ensures { IfOk result (λ k. k ≡ board_kind (context board.now.bytes known.now) board.now.item) }
-{
-    let version = has_version(alloc, board)?;
-    Ok(first_kind(&[
-        when(OffenceKind::NotBoard, !board.is_headed(b"kicad_pcb")),
-        when(OffenceKind::Version, !version),
-        when(OffenceKind::MissingPart, !board.has(b"layers")),
-    ]))
-}
-
-/// The first offence of a net, that is declared before or not, and one too many or not.
-///
-/// # Errors
-///
-/// Want of memory.
-#[tactic(auto, unfolding(board_language::specs::Offences::net_kind))]
-pub fn net_kind(
-    alloc: Global,
-    known: &Known,
-    net: &Part<'_>,
-    double: bool,
-    many: bool,
-) -> Result<Option<OffenceKind>, Memory>
-    ensures { IfOk result (λ k. k ≡ net_kind (context net.now.bytes known.now) net.now.item double many) }
-{
-    let fault = net.whole_fault_at(alloc, 0)?;
-    Ok(first_kind(&[
-        when(OffenceKind::MissingPart, net.is_short(1)),
-        number_kind(fault),
-        when(OffenceKind::DoubleNet, double),
-        when(OffenceKind::TooMany, many),
-    ]))
-}
 
 /// The number that a net declares.
 ///
@@ -149,7 +72,7 @@ pub fn declared_nets(alloc: Global, board: &Part<'_>) -> Result<Numbers, Memory>
 /// # Errors
 ///
 /// Want of memory.
-#[tactic(auto, unfolding(board_language::specs::Reading::context_of))]
+#[tactic(auto, unfolding(board_text::specs::Items::context_of))]
 pub fn known_of(alloc: Global, board: &Part<'_>) -> Result<Known, Memory>
     ensures { IfOk result (λ known. context board.now.bytes known ≡ context_of board.now.bytes board.now.item) }
 {
@@ -157,4 +80,16 @@ pub fn known_of(alloc: Global, board: &Part<'_>) -> Result<Known, Memory>
         copper: copper_names(alloc, board)?,
         nets: declared_nets(alloc, board)?,
     })
+}
+
+/// Whether a net other than 0 isn't declared.
+///
+/// # Errors
+///
+/// Want of memory.
+pub fn is_unknown_net(alloc: Global, known: &Known, item: &Part<'_>) -> Result<bool, Memory>
+    ensures { IfOk result (λ yes. yes ≡ is_unknown_net (context item.now.bytes known.now) (net_of item.now.bytes item.now.item)) }
+{
+    let net = item.whole_in(alloc, b"net")?;
+    Ok(net != 0 && !known.nets.has(net))
 }

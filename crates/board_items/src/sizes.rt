@@ -1,7 +1,7 @@
 // Lengths and sizes, in nanometres.
 ghost use Rattle.std.specs.Prelude.{◌≡◌};
 ghost use Rattle.grid_num.specs.Length.{IsInRange};
-ghost use Rattle.board_language.specs.Items.{size_of, is_no_length, is_no_size};
+ghost use Rattle.board_text.specs.Items.{size_of, is_no_length, is_no_size};
 
 /// A length that isn't negative; 0 for one that is.
 pub fn size_of(nm: i64) -> u32

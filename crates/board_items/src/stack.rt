@@ -1,18 +1,15 @@
 // The layers that a board declares, and those that a via goes through.
 ghost use Rattle.std.specs.Prelude.{◌≡◌, ℕ, ◌+◌, ◌*◌, ◌^◌, ◌<◌, ◌≤◌, ◌&&◌, ◌||◌, ◌∷◌, [], not, nat_le, nat_lt, cond, is_none, length, map, filter, filter_map, option_map, codes, Some, None, IfOk};
 ghost use Rattle.std.specs.List.{list_any};
-ghost use Rattle.text_items.specs.Parts.{part_of};
-ghost use Rattle.board_language.specs.Layers.{bits, between_from, copper_layers, has_double, is_between, is_copper, is_layer, layers_between, layers_in, name_of_layer};
-ghost use Rattle.board_language.specs.Numbers.{first_of};
-ghost use Rattle.board_language.specs.Offences.{layer_fault, layer_names_in, layers_kind};
+ghost use Rattle.sexpr_text.specs.Parts.{part_of};
+ghost use Rattle.board_text.specs.Layers.{bits, between_from, copper_layers, has_double, is_between, is_copper, is_layer, layers_between, layers_in, name_of_layer, layer_fault, layer_names_in};
+ghost use Rattle.board_text.specs.Numbers.{first_of};
 ghost use Rattle.board_items.specs.Known.{context};
 
 use crate::layer_lists::bit;
 use crate::layers::is_copper;
-use crate::tests_of::{first_kind, number_kind, when};
-use crate::{Known, Names};
-use board_language::OffenceKind;
-use board_parts::{Part, has_text};
+use crate::{Known, LayerNames};
+use board_text::{Part, has_text};
 use grid_num::{Memory, NumFault};
 use sexpr_text::NodeKind;
 use std::alloc::Global;
@@ -38,8 +35,8 @@ fn set_between(a: usize, b: usize, count: usize) -> u32
 
 /// The set of all copper layers from the one to the other, both counted in, of a board with at most 32 of them. Each name
 /// stands for itself alone.
-#[tactic(auto, unfolding(board_language::specs::Layers::layers_between))]
-pub fn layers_between(copper: &Names, top: &[u8], bottom: &[u8]) -> u32
+#[tactic(auto, unfolding(board_text::specs::Layers::layers_between))]
+pub fn layers_between(copper: &LayerNames, top: &[u8], bottom: &[u8]) -> u32
     requires few { length copper.now ≤ 32 }
     ensures { result ≡ layers_between copper.now top.now bottom.now }
 {
@@ -89,7 +86,11 @@ pub fn layer_fault(alloc: Global, layer: &Part<'_>) -> Result<Option<NumFault>, 
 }
 
 /// The items of `layers` that stand for layers, in order.
-fn layers_in<'a>(alloc: Global, item: &Part<'a>) -> Result<Vec<Part<'a>>, Memory>
+///
+/// # Errors
+///
+/// Want of memory.
+pub fn layers_in<'a>(alloc: Global, item: &Part<'a>) -> Result<Vec<Part<'a>>, Memory>
     ensures { IfOk result (λ v. v.items ≡ map (part_of item.now.bytes) (layers_in item.now.item)) }
 {
     let mut layers = Vec::new(alloc);
@@ -103,7 +104,11 @@ fn layers_in<'a>(alloc: Global, item: &Part<'a>) -> Result<Vec<Part<'a>>, Memory
 }
 
 /// Whether one of the layers has no name.
-fn lacks_name(alloc: Global, layers: &[Part<'_>]) -> Result<bool, Memory>
+///
+/// # Errors
+///
+/// Want of memory.
+pub fn lacks_name(alloc: Global, layers: &[Part<'_>]) -> Result<bool, Memory>
     ensures { IfOk result (λ yes. yes ≡ list_any (λ layer. is_none (name_of_layer layer.bytes layer.item)) layers.now) }
 {
     'each: for layer in layers {
@@ -116,7 +121,11 @@ fn lacks_name(alloc: Global, layers: &[Part<'_>]) -> Result<bool, Memory>
 }
 
 /// The first of the layers' numbers that can't be read.
-fn layers_fault(alloc: Global, layers: &[Part<'_>]) -> Result<Option<NumFault>, Memory>
+///
+/// # Errors
+///
+/// Want of memory.
+pub fn layers_fault(alloc: Global, layers: &[Part<'_>]) -> Result<Option<NumFault>, Memory>
     ensures { IfOk result (λ f. f ≡ first_of (map (λ layer. layer_fault layer.bytes layer.item) layers.now)) }
 {
     'each: for layer in layers {
@@ -129,7 +138,11 @@ fn layers_fault(alloc: Global, layers: &[Part<'_>]) -> Result<Option<NumFault>, 
 }
 
 /// The names of the layers that have one, in order.
-fn names_of_layers(alloc: Global, layers: &[Part<'_>]) -> Result<Vec<Vec<u8>>, Memory>
+///
+/// # Errors
+///
+/// Want of memory.
+pub fn names_of_layers(alloc: Global, layers: &[Part<'_>]) -> Result<Vec<Vec<u8>>, Memory>
     ensures { IfOk result (λ v. map (λ t. t.items) v.items ≡ filter_map (λ layer. name_of_layer layer.bytes layer.item) layers.now) }
 {
     let mut names = Vec::new(alloc);
@@ -142,7 +155,7 @@ fn names_of_layers(alloc: Global, layers: &[Part<'_>]) -> Result<Vec<Vec<u8>>, M
 }
 
 /// Whether a name stands twice.
-fn has_double(names: &[Vec<u8>]) -> bool
+pub fn has_double(names: &[Vec<u8>]) -> bool
     ensures { result ≡ has_double (map (λ t. t.items) names.now) }
 {
     'each: for place in 0..names.len() {
@@ -154,10 +167,14 @@ fn has_double(names: &[Vec<u8>]) -> bool
 }
 
 /// Those of the names that are of copper, in order.
-fn copper_among(alloc: Global, names: &[Vec<u8>]) -> Result<Names, Memory>
+///
+/// # Errors
+///
+/// Want of memory.
+pub fn copper_among(alloc: Global, names: &[Vec<u8>]) -> Result<LayerNames, Memory>
     ensures { IfOk result (λ c. c ≡ filter is_copper (map (λ t. t.items) names.now)) }
 {
-    let mut copper = Names::new(alloc);
+    let mut copper = LayerNames::new(alloc);
     'each: for name in names {
         if is_copper(name.as_slice()) {
             copper.push(name.as_slice().to_vec(alloc)?)?;
@@ -166,33 +183,8 @@ fn copper_among(alloc: Global, names: &[Vec<u8>]) -> Result<Names, Memory>
     Ok(copper)
 }
 
-/// The first offence of the board's `layers`.
-///
-/// # Errors
-///
-/// Want of memory.
-pub fn layers_kind(
-    alloc: Global,
-    known: &Known,
-    item: &Part<'_>,
-) -> Result<Option<OffenceKind>, Memory>
-    ensures { IfOk result (λ k. k ≡ layers_kind (context item.now.bytes known.now) item.now.item) }
-{
-    let layers = layers_in(alloc, item)?;
-    let lacks = lacks_name(alloc, &layers)?;
-    let fault = layers_fault(alloc, &layers)?;
-    let names = names_of_layers(alloc, &layers)?;
-    let copper = copper_among(alloc, &names)?;
-    Ok(first_kind(&[
-        when(OffenceKind::MissingPart, lacks),
-        number_kind(fault),
-        when(OffenceKind::DoubleLayer, has_double(&names)),
-        when(OffenceKind::TooMany, 32 < copper.len()),
-    ]))
-}
-
 /// The copper layers that a `layers` declares, in order.
-fn copper_in(alloc: Global, item: &Part<'_>) -> Result<Names, Memory>
+fn copper_in(alloc: Global, item: &Part<'_>) -> Result<LayerNames, Memory>
     ensures { IfOk result (λ c. c ≡ filter is_copper (layer_names_in item.now.bytes item.now.item)) }
 {
     let layers = layers_in(alloc, item)?;
@@ -205,12 +197,12 @@ fn copper_in(alloc: Global, item: &Part<'_>) -> Result<Names, Memory>
 /// # Errors
 ///
 /// Want of memory.
-#[tactic(auto, unfolding(board_language::specs::Layers::copper_layers))]
-pub fn copper_names(alloc: Global, board: &Part<'_>) -> Result<Names, Memory>
+#[tactic(auto, unfolding(board_text::specs::Layers::copper_layers))]
+pub fn copper_names(alloc: Global, board: &Part<'_>) -> Result<LayerNames, Memory>
     ensures { IfOk result (λ c. c ≡ copper_layers board.now.bytes board.now.item) }
 {
     match board.list(b"layers") {
         Some(item) => copper_in(alloc, &item),
-        None => Ok(Names::new(alloc)),
+        None => Ok(LayerNames::new(alloc)),
     }
 }

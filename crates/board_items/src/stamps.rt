@@ -1,22 +1,14 @@
 // Stamps, each with the thing that it belongs to.
 ghost use Rattle.std.specs.Prelude.{◌≡◌, ℕ, List, [], ◌||◌, OnOk, OnErr};
 ghost use Rattle.std.specs.Option.{option_or};
-ghost use Rattle.board_language.specs.Layers.{is_among};
+ghost use Rattle.board_text.specs.Layers.{is_among};
 ghost use Rattle.board_items.specs.Stamps.{Table, stamped, stamps_of, with_stamp, with_stamps};
 
+use board_text::Stamped;
 use grid_num::Memory;
 use indexmap::IndexMap;
 use std::alloc::Global;
 use std::marker::Model;
-
-/// What a stamp belongs to: a track, a via or a zone by its number, or another thing.
-#[derive(Clone, Copy, PartialEq, Eq, Debug)]
-pub enum Stamped {
-    Track(u32),
-    Via(u32),
-    Zone(u32),
-    Other,
-}
 
 /// Stamps in their order, each once, with the first thing that has it, and found by its hash. Contracts see the list of
 /// pairs.
@@ -27,7 +19,7 @@ pub struct Stamps {
 
 impl Model for Stamps {
     ghost use Rattle.std.specs.Prelude.{ℕ, List, map};
-    ghost use Rattle.board_items.specs.declared.stamps.Stamped.{Stamped};
+    ghost use Rattle.board_text.specs.declared.stamped.Stamped.{Stamped};
 
     ghost Value = { List (List ℕ × Stamped) };
 

@@ -1,10 +1,10 @@
 // What an item of a board is.
 ghost use Rattle.std.specs.Prelude.{◌≡◌, ◌||◌, codes, IfOk};
-ghost use Rattle.board_language.specs.Things.{is_picture, on_board, of_footprint, zone_thing, drawing_thing};
+ghost use Rattle.board_text.specs.Things.{is_picture, on_board, of_footprint, zone_thing, drawing_thing};
 ghost use Rattle.sexpr_text.specs.Items.{Item};
 ghost use Rattle.board_items.specs.Things.{thing_shown, own_shown};
 
-use board_parts::Part;
+use board_text::Part;
 
 /// What a list of the board is.
 #[derive(Clone, Copy, PartialEq, Eq, Debug)]

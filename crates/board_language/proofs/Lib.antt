@@ -1,1 +1,5 @@
-pub mod Lengths
+pub mod FirstKind
+pub mod NoneOffends
+pub mod Places
+pub mod OneOffence
+pub mod Few

@@ -1,9 +1,4 @@
-pub mod Fields
-pub mod Numbers
-pub mod Layers
-pub mod Things
 pub mod Board
-pub mod Items
 pub mod Tracks
 pub mod Pads
 pub mod Zones
@@ -11,3 +6,5 @@ pub mod Edges
 pub mod Counts
 pub mod Offences
 pub mod Reading
+pub mod Stamps
+pub mod Laws

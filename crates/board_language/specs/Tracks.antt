@@ -2,26 +2,21 @@
 --
 --     (segment (start 0 0) (end 5 0) (width 0.25) (layer "F.Cu") (net 1) (tstamp ..))
 --     (via (at 5 0) (size 0.6) (drill 0.3) (layers "F.Cu" "B.Cu") (net 1) (tstamp ..))
-use Rattle.std.specs.Prelude.{ℕ, List, [], ◌∷◌, codes, slice_get, unwrap_or, Option}
+use Rattle.std.specs.Prelude.{ℕ, List, [], ◌∷◌, codes, Option}
 use Rattle.grid_num.specs.declared.read.NumFault.{NumFault}
 use Rattle.sexpr_text.specs.Items.{Item}
-use Rattle.board_language.specs.Fields.{list_of}
-use Rattle.board_language.specs.Numbers.{first_of, point_fault, length_fault_at, whole_fault_at}
-use Rattle.board_language.specs.Layers.{Name, names_of, layer_number, layers_between}
+use Rattle.board_text.specs.Fields.{list_of}
+use Rattle.board_text.specs.Numbers.{first_of, point_fault, length_fault_at, whole_fault_at}
+use Rattle.board_text.specs.Layers.{Name, layer_names, name_at, layer_number, layers_between}
 use Rattle.board_language.specs.declared.board.Track.{Track}
 use Rattle.board_language.specs.declared.board.Via.{Via}
-use Rattle.board_language.specs.Items.{Context, line_of, span_of, size_of, length_in, point_in, net_of}
+use Rattle.board_text.specs.Items.{Context, line_of, span_of, size_of, length_in, point_in, net_of}
 
--- the names in the list with this head; of a track's `layer` the first counts, of a via's `layers` the first two
-abbrev pub layer_names : List ℕ → List ℕ → Item → List Name
-layer_names bytes name item = names_of bytes (list_of bytes name item)
-
-abbrev pub name_at : ℕ → List Name → Name
-name_at place names = unwrap_or (slice_get names place) []
-
+-- the layer that a track names
 abbrev pub track_layer : List ℕ → Item → Name
 track_layer bytes item = name_at 0 (layer_names bytes (codes "layer") item)
 
+-- the track that is read of an item
 unfoldable pub track_of : Context → Item → Track
 track_of c item =
     record {
@@ -44,9 +39,11 @@ track_fault bytes item =
     ∷ whole_fault_at bytes 0 (list_of bytes (codes "net") item)
     ∷ [])
 
+-- the first or second layer that a via names
 abbrev pub via_layer : List ℕ → ℕ → Item → Name
 via_layer bytes place item = name_at place (layer_names bytes (codes "layers") item)
 
+-- the via that is read of an item, on these layers
 abbrev pub via_with : List ℕ → ℕ → Item → Via
 via_with bytes layers item =
     record {
@@ -62,6 +59,7 @@ via_with bytes layers item =
 unfoldable pub via_of : Context → Item → Via
 via_of c item = via_with c.bytes (layers_between c.copper (via_layer c.bytes 0 item) (via_layer c.bytes 1 item)) item
 
+-- the first of a via's numbers that can't be read
 unfoldable pub via_fault : List ℕ → Item → Option NumFault
 via_fault bytes item =
     first_of (

@@ -15,16 +15,16 @@ use Rattle.grid_num.specs.declared.Point.{Point}
 use Rattle.grid_num.specs.declared.read.NumFault.{NumFault}
 use Rattle.sexpr_text.specs.Items.{Item, is_headed}
 use Rattle.sexpr_text.specs.declared.Span.{Span}
-use Rattle.board_fields.specs.Lists.{lists_of}
+use Rattle.board_text.specs.Lists.{lists_of}
 use Rattle.board_language.specs.declared.Join.{Join}
 use Rattle.board_language.specs.declared.Join.TheVariants.{Thermal, Solid, Apart, PlatedThermal}
-use Rattle.board_language.specs.Fields.{list_of, list_in, says_at, texts_of, passes}
-use Rattle.board_language.specs.Numbers.{first_of, point_fault, length_fault_at, whole_fault_at, value_at, length_of, whole_number}
-use Rattle.board_language.specs.Layers.{has_copper, layer_set}
+use Rattle.board_text.specs.Fields.{list_of, list_in, says_at, texts_of, passes}
+use Rattle.board_text.specs.Numbers.{first_of, point_fault, length_fault_at, whole_fault_at, value_at, length_of, whole_number}
+use Rattle.board_text.specs.Layers.{has_copper, layer_set}
 use Rattle.board_language.specs.declared.board.Zone.{Zone}
 use Rattle.board_language.specs.declared.board.ZoneSpans.{ZoneSpans}
 use Rattle.board_language.specs.declared.board.Area.{Area}
-use Rattle.board_language.specs.Items.{Context, line_of, span_of, tail_of, size_of, point_at, whole_in, net_of}
+use Rattle.board_text.specs.Items.{Context, line_of, span_of, tail_of, size_of, point_at, whole_in, net_of}
 
 -- ---- which are read
 
@@ -40,11 +40,13 @@ is_read_zone c zone = has_copper c.bytes c.copper (layer_list c.bytes zone)
 abbrev pub keeps_copper_out : List ℕ → Item → Bool
 keeps_copper_out bytes zone = passes (says_at bytes 0 (codes "not_allowed")) (list_in bytes (codes "keepout") (codes "copperpour") zone)
 
+-- a rule area is read where it keeps copper out, on a copper layer
 abbrev pub is_read_area : Context → Item → Bool
 is_read_area c zone = keeps_copper_out c.bytes zone && is_read_zone c zone
 
 -- ---- the outline
 
+-- the points of the outline
 abbrev pub points_list : List ℕ → Item → Option Item
 points_list bytes zone = list_in bytes (codes "polygon") (codes "pts") zone
 
@@ -53,19 +55,21 @@ abbrev pub lists_in : Option Item → List Item
 lists_in None = []
 lists_in (Some list) = lists_of list
 
+-- each point of the outline
 abbrev pub corner_lists : List ℕ → Item → List Item
 corner_lists bytes zone = lists_in (points_list bytes zone)
 
 -- the corners in nanometres, in their order
-unfoldable pub corners_of : List ℕ → Item → List Point
-corners_of bytes zone = map (λ list. point_at bytes (Some list)) (corner_lists bytes zone)
+unfoldable pub corners_read : List ℕ → Item → List Point
+corners_read bytes zone = map (λ list. point_at bytes (Some list)) (corner_lists bytes zone)
 
 -- nanometres in units of 2 nm
-abbrev pub in_units : Point → Point
-in_units p = record { x = int_div_euclid p.x (pos 2); y = int_div_euclid p.y (pos 2) }
+abbrev pub corner_in_units : Point → Point
+corner_in_units p = record { x = int_div_euclid p.x (pos 2); y = int_div_euclid p.y (pos 2) }
 
+-- the corners in units, in their order
 abbrev pub outline_of : List ℕ → Item → List Point
-outline_of bytes zone = map in_units (corners_of bytes zone)
+outline_of bytes zone = map corner_in_units (corners_read bytes zone)
 
 -- ---- settings
 
@@ -73,27 +77,35 @@ outline_of bytes zone = map in_units (corners_of bytes zone)
 abbrev pub length_or : ℤ → List ℕ → Option Item → ℤ
 length_or absent bytes list = value_at length_of bytes 0 absent list
 
+-- where the clearance stands
 abbrev pub clearance_list : List ℕ → Item → Option Item
 clearance_list bytes zone = list_in bytes (codes "connect_pads") (codes "clearance") zone
 
+-- where the gap of thermal reliefs stands
 abbrev pub gap_list : List ℕ → Item → Option Item
 gap_list bytes zone = list_in bytes (codes "fill") (codes "thermal_gap") zone
 
+-- where the width of their bridges stands
 abbrev pub bridge_list : List ℕ → Item → Option Item
 bridge_list bytes zone = list_in bytes (codes "fill") (codes "thermal_bridge_width") zone
 
+-- where it stands how islands are removed
 abbrev pub mode_list : List ℕ → Item → Option Item
 mode_list bytes zone = list_in bytes (codes "fill") (codes "island_removal_mode") zone
 
+-- the clearance; 0 where none is given
 abbrev pub clearance_in : List ℕ → Item → ℤ
 clearance_in bytes zone = length_or (pos 0) bytes (clearance_list bytes zone)
 
+-- the minimum thickness; 0.25 mm where none is given
 abbrev pub thickness_in : List ℕ → Item → ℤ
 thickness_in bytes zone = length_or (pos 250000) bytes (list_of bytes (codes "min_thickness") zone)
 
+-- the gap of thermal reliefs; 0.5 mm where none is given
 abbrev pub gap_in : List ℕ → Item → ℤ
 gap_in bytes zone = length_or (pos 500000) bytes (gap_list bytes zone)
 
+-- the width of their bridges; 0.5 mm where none is given
 abbrev pub bridge_in : List ℕ → Item → ℤ
 bridge_in bytes zone = length_or (pos 500000) bytes (bridge_list bytes zone)
 
@@ -112,12 +124,14 @@ abbrev pub first_join : List (List ℕ) → Join
 first_join [] = Thermal
 first_join (text ∷ texts) = unwrap_or (join_by_word text) (first_join texts)
 
+-- how pads are joined; thermally where nothing is said
 abbrev pub join_in : List ℕ → Option Item → Join
 join_in bytes None = Thermal
 join_in bytes (Some connect) = first_join (texts_of bytes connect)
 
 -- ---- places
 
+-- where a list stands that may be absent
 abbrev pub span_or_none : Option Item → Option Span
 span_or_none list = option_map span_of list
 
@@ -125,6 +139,7 @@ span_or_none list = option_map span_of list
 abbrev pub is_fill : List ℕ → Item → Bool
 is_fill bytes list = is_headed bytes (codes "filled_polygon") list || is_headed bytes (codes "fill_segments") list
 
+-- where the lists of a zone stand that are replaced, and where its rings go
 unfoldable pub spans_of : List ℕ → Item → ZoneSpans
 spans_of bytes zone =
     record {
@@ -137,6 +152,7 @@ spans_of bytes zone =
 
 -- ---- the whole
 
+-- the zone that is read of an item
 unfoldable pub zone_of : Context → Item → Zone
 zone_of c zone =
     record {
@@ -155,14 +171,17 @@ zone_of c zone =
       line = line_of c.bytes zone.from;
     }
 
+-- the rule area that is read of an item
 unfoldable pub area_of : Context → Item → Area
 area_of c zone = record { outline = outline_of c.bytes zone; layers = layer_set c.bytes c.copper (layer_list c.bytes zone) }
 
 -- ---- the first of the numbers that can't be read, in the order in which they are read
 
+-- of the outline's numbers the first that can't be read
 unfoldable pub corners_fault : List ℕ → Item → Option NumFault
 corners_fault bytes zone = first_of (map (λ list. point_fault bytes (Some list)) (corner_lists bytes zone))
 
+-- of a zone's numbers the first that can't be read
 unfoldable pub zone_fault : List ℕ → Item → Option NumFault
 zone_fault bytes zone =
     first_of (

@@ -1,20 +1,20 @@
 //! The language of boards: what is read of each list of a `.kicad_pcb` file, and what offends in it.
-//! The layer above uses the definitions of `specs/`: the board of a text's tree, and its first offence. Nothing here runs.
+//! The layer above uses the definitions of `specs/`: the board of a text's tree, and its first offence. What runs here only
+//! takes the first of several kinds of offences.
 //! Lengths are nanometres, lengths of shapes are halves of a nanometre, places are numbers of bytes.
 #![tactic(auto)]
 
-ghost use Rattle.std.specs.Prelude.{◌≡◌, ℕ, ℤ, pos, List, Some, None};
-ghost use Rattle.grid_num.specs.Length.{IsLength};
-ghost use Rattle.grid_num.specs.Faults.{HasFault};
-ghost use Rattle.grid_num.specs.declared.read.NumFault.{NumFault};
-ghost use Rattle.board_language.specs.Numbers.{length_fault, length_of};
-
 mod board;
+mod kinds;
+mod laws;
 mod offence;
 
 pub use board::{Area, FillSpans, Pad, Rules, Track, Via, Zone, ZoneSpans};
+pub use board_text::{Name, Stamped};
 pub use copper_shape::Edge;
-pub use offence::OffenceKind;
+pub use kinds::{first_kind, number_kind, when};
+pub use laws::one_offence_law;
+pub use offence::{Offence, OffenceKind};
 
 /// What a pad is.
 #[derive(Clone, Copy, PartialEq, Eq, Debug)]
@@ -50,9 +50,3 @@ pub enum EdgeForm {
     /// A circle, a curve, a text and whatever else.
     Other,
 }
-
-/// A length is read here as `grid_num` reads it: the same lengths, and the same faults.
-pub fn length_law()
-    ensures length { (text : List ℕ) (nm : ℤ) → IsLength text nm → (length_fault text ≡ None) × (nm ≡ length_of text) }
-    ensures fault { (text : List ℕ) (fault : NumFault) → HasFault text fault → (length_fault text ≡ Some fault) × (pos 0 ≡ length_of text) }
-{}

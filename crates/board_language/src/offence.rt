@@ -62,3 +62,13 @@ pub enum OffenceKind {
     /// The board is too large from here on.
     TooMany,
 }
+
+/// The first offence in a board.
+#[derive(Clone, Copy, PartialEq, Eq, Debug)]
+pub struct Offence {
+    /// The place of the item in the text, in bytes.
+    pub at: usize,
+    /// The line of that place, from 1.
+    pub line: u64,
+    pub kind: OffenceKind,
+}

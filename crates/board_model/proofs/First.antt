@@ -2,19 +2,19 @@
 use Rattle.std.proofs.Common.{◌≡◌, inl, inr, ◌∙◌, ap, sym, refl, subst, ℕ, Bool, true, false, cond, List, [], ◌∷◌, ◌++◌, ◌||◌, append_assoc, append-nil, get_or, drop, length, Option, None, Some}
 use Rattle.std.specs.Prelude.{sum_by}
 use Rattle.std.proofs.Math.Nat.{suc-ne-zero}
-use Rattle.board_language.specs.Layers.{Name}
+use Rattle.board_text.specs.Layers.{Name}
 use Rattle.board_items.specs.Stamps.{stamps_of}
 use Rattle.outline_slab.specs.declared.error.OutlineFault.{OutlineFault}
 use Rattle.board_language.specs.declared.offence.OffenceKind.{OffenceKind}
-use Rattle.board_language.specs.Things.{Placed, Thing, Board, Layers, Net, Track, CurvedTrack, Via, Footprint, RuleArea, Zone, Drawing, Pad, FootprintDrawing, FootprintZone, Other, thing_of}
-use Rattle.board_language.specs.Items.{Context, stamp_in, declared_net, line_of}
+use Rattle.board_text.specs.Things.{Placed, Thing, Board, Layers, Net, Track, CurvedTrack, Via, Footprint, RuleArea, Zone, Drawing, Pad, FootprintDrawing, FootprintZone, Other, thing_of}
+use Rattle.board_text.specs.Items.{Context, stamp_in, declared_net, line_of}
 use Rattle.board_language.specs.Pads.{is_read_pad}
 use Rattle.board_language.specs.Zones.{is_read_zone, is_read_area}
 use Rattle.board_language.specs.Counts.{things_of, things_as, outlines_of, outlines_as, is_first_over, is_one_too_many}
 use Rattle.board_language.specs.Offences.{kind_as, kind_with, IsKindOf, layers_kind, net_kind, track_kind, via_kind, pad_kind, zone_kind, area_kind, stamp_kind, drawing_kind, is_double_net, is_double_stamp, is_declared_among, is_stamped_among, stamps_among}
 use Rattle.board_language.specs.Reading.{AreSound, IsFirstOffence}
-use Rattle.board_model.specs.declared.error.Offence.{Offence}
-use Rattle.board_model.specs.State.{State, nothing}
+use Rattle.board_language.specs.declared.offence.Offence.{Offence}
+use Rattle.board_model.specs.State.{State, nothing_read_yet}
 use Rattle.board_model.specs.Steps.{kind_by, is_over, is_double, IsKindBy}
 use Rattle.board_model.specs.Run.{after, AreSoundFrom, OffendsFirst}
 use Rattle.board_model.proofs.Marked.{Marked, none_marked, next_marked}
@@ -111,8 +111,8 @@ each_sound c s before (x ∷ xs) h sound (q ∷ mid) behind p e =
     subst (λ y. IsKindOf c (before ++ y ∷ mid) p None) is.0 (subst (λ b. IsKindOf c b p None) (longer before mid x) next)
 
 -- nothing offends, where nothing does item by item
-pub all_sound : (c : Context) (items : List Placed) → AreSoundFrom c nothing items → AreSound c items
-all_sound c items sound before behind p e = each_sound c nothing [] items (none_marked c) sound before behind p e
+pub all_sound : (c : Context) (items : List Placed) → AreSoundFrom c nothing_read_yet items → AreSound c items
+all_sound c items sound before behind p e = each_sound c nothing_read_yet [] items (none_marked c) sound before behind p e
 
 -- of a list behind others, the first item that offends
 record IsFirst (c : Context) (before rest : List Placed) (o : Offence) : Type 0 where
@@ -161,9 +161,9 @@ first_is c s before (x ∷ xs) o h (inr f) =
         subst (λ z. IsKindOf c (before ++ z ∷ ys) q None) is.0 (subst (λ b. IsKindOf c b q None) (longer before ys x) (r ys tail q is.1))
 
 -- the first item that offends, where it does item by item
-pub first_offence : (c : Context) (items : List Placed) (o : Offence) → OffendsFirst c nothing items o → IsFirstOffence c items o.at o.line o.kind
+pub first_offence : (c : Context) (items : List Placed) (o : Offence) → OffendsFirst c nothing_read_yet items o → IsFirstOffence c items o.at o.line o.kind
 first_offence c items o f =
-    let r = first_is c nothing [] items o (none_marked c) f in
+    let r = first_is c nothing_read_yet [] items o (none_marked c) f in
     record {
       before = r.mid;
       after = r.behind;

@@ -4,17 +4,19 @@ use Rattle.std.specs.Prelude.{flat_map}
 use Rattle.std.proofs.lemmas.List.Concat.{flat_map-append}
 use Rattle.sexpr_text.specs.Items.{Item}
 use Rattle.copper_shape.specs.declared.edge.Edge.{Edge}
-use Rattle.board_language.specs.Things.{Placed, Thing, Board, Layers, Net, Track, CurvedTrack, Via, Footprint, RuleArea, Zone, Drawing, Pad, FootprintDrawing, FootprintZone, Other, thing_of}
-use Rattle.board_language.specs.Items.{Context, stamp_in}
+use Rattle.board_text.specs.Things.{Placed, Thing, Board, Layers, Net, Track, CurvedTrack, Via, Footprint, RuleArea, Zone, Drawing, Pad, FootprintDrawing, FootprintZone, Other, thing_of}
+use Rattle.board_text.specs.Items.{Context, stamp_in}
 use Rattle.board_language.specs.Tracks.{track_of, via_of}
 use Rattle.board_language.specs.Pads.{is_read_pad, pad_of}
 use Rattle.board_language.specs.Zones.{is_read_zone, is_read_area, zone_of, area_of}
+use Rattle.board_language.specs.Offences.{stamp_as}
+use Rattle.board_language.specs.Stamps.{stamped_as, stamped_behind}
 use Rattle.board_language.specs.Reading.{all_of, track_from, via_from, pad_from, zone_from, area_from, edges_from}
-use Rattle.board_items.specs.declared.stamps.Stamped.{Stamped}
-use Rattle.board_items.specs.declared.stamps.Stamped.TheVariants as stamped
+use Rattle.board_text.specs.declared.stamped.Stamped.{Stamped}
+use Rattle.board_text.specs.declared.stamped.Stamped.TheVariants as stamped
 use Rattle.board_items.specs.Stamps.{Table, with_stamp, with_stamps}
-use Rattle.board_model.specs.State.{State, nothing}
-use Rattle.board_model.specs.Whole.{stamp_with, stamped_as, stamp_at, stamps_after}
+use Rattle.board_model.specs.State.{State, nothing_read_yet}
+use Rattle.board_model.specs.Whole.{stamp_with, stamp_at, stamps_after}
 use Rattle.board_model.specs.Steps.{after_as, put, kept, has_few, put_stamp}
 use Rattle.board_model.specs.Run.{after, after_all}
 use Rattle.board_model.proofs.Marked.{found_last}
@@ -134,42 +136,38 @@ module _ (c : Context) (few : has_few c ≡ true) (s : State) (item : Item) wher
   edges_after FootprintZone = none_more s.edges
   edges_after Other = none_more s.edges
 
-  one_stamp : (table : Table) (name : Option (List ℕ)) (thing : Stamped) → put_stamp table name thing ≡ with_stamps table (stamp_with name (Some thing))
+  one_stamp : (table : Table) (name : Option (List ℕ)) (thing : Stamped) → put_stamp table name thing ≡ with_stamps table (stamp_with name thing)
   unfolding with_stamps
   one_stamp table None thing = refl
   one_stamp table (Some name) thing = refl
 
-  none_stamped : (name : Option (List ℕ)) → stamp_with name None ≡ []
-  none_stamped None = refl
-  none_stamped (Some name) = refl
-
-  unstamped : s.stamps ≡ with_stamps s.stamps (stamp_with (stamp_in c.bytes item) None)
+  unstamped : s.stamps ≡ with_stamps s.stamps []
   unfolding with_stamps
-  unstamped = sym (ap (with_stamps s.stamps) (none_stamped (stamp_in c.bytes item)))
+  unstamped = refl
 
   -- a zone by its place, where it is read
   zone_stamp : (b : Bool) (new old : State) (n : ℕ) → new.stamps ≡ put_stamp s.stamps (stamp_in c.bytes item) (stamped.Zone n)
       → old.stamps ≡ put_stamp s.stamps (stamp_in c.bytes item) stamped.Other
-      → (cond b new old).stamps ≡ with_stamps s.stamps (stamp_with (stamp_in c.bytes item) (Some (cond b (stamped.Zone n) stamped.Other)))
+      → (cond b new old).stamps ≡ with_stamps s.stamps (stamp_with (stamp_in c.bytes item) (cond b (stamped.Zone n) stamped.Other))
   zone_stamp true new old n p q = p ∙ one_stamp s.stamps (stamp_in c.bytes item) (stamped.Zone n)
   zone_stamp false new old n p q = q ∙ one_stamp s.stamps (stamp_in c.bytes item) stamped.Other
 
   pub stamps_then : (before : List Placed) → s.tracks ≡ all_of track_from c before → s.vias ≡ all_of via_from c before → s.zones ≡ all_of zone_from c before
-      → (t : Thing) → (after_as c s item t).stamps ≡ with_stamps s.stamps (stamp_with (stamp_in c.bytes item) (stamped_as c before item t))
+      → (t : Thing) → (after_as c s item t).stamps ≡ with_stamps s.stamps (stamp_with (stamp_as c.bytes item t) (stamped_as c before item t))
   stamps_then before tracks vias zones Board = unstamped
   stamps_then before tracks vias zones Layers = unstamped
   stamps_then before tracks vias zones Net = unstamped
   stamps_then before tracks vias zones Track =
-      one_stamp s.stamps (stamp_in c.bytes item) (stamped.Track (length s.tracks)) ∙ ap (λ xs. with_stamps s.stamps (stamp_with (stamp_in c.bytes item) (Some (stamped.Track (length xs))))) tracks
+      one_stamp s.stamps (stamp_in c.bytes item) (stamped.Track (length s.tracks)) ∙ ap (λ xs. with_stamps s.stamps (stamp_with (stamp_in c.bytes item) (stamped.Track (length xs)))) tracks
   stamps_then before tracks vias zones CurvedTrack = unstamped
   stamps_then before tracks vias zones Via =
-      one_stamp s.stamps (stamp_in c.bytes item) (stamped.Via (length s.vias)) ∙ ap (λ xs. with_stamps s.stamps (stamp_with (stamp_in c.bytes item) (Some (stamped.Via (length xs))))) vias
+      one_stamp s.stamps (stamp_in c.bytes item) (stamped.Via (length s.vias)) ∙ ap (λ xs. with_stamps s.stamps (stamp_with (stamp_in c.bytes item) (stamped.Via (length xs)))) vias
   stamps_then before tracks vias zones Footprint = unstamped
   stamps_then before tracks vias zones RuleArea =
       picked (λ (r : State). r.stamps) (is_read_area c item) _ _ _ (one_stamp s.stamps (stamp_in c.bytes item) stamped.Other) (one_stamp s.stamps (stamp_in c.bytes item) stamped.Other)
   stamps_then before tracks vias zones Zone =
       zone_stamp (is_read_zone c item) _ (record s { stamps = _ }) (length s.zones) refl refl
-      ∙ ap (λ xs. with_stamps s.stamps (stamp_with (stamp_in c.bytes item) (Some (cond (is_read_zone c item) (stamped.Zone (length xs)) stamped.Other)))) zones
+      ∙ ap (λ xs. with_stamps s.stamps (stamp_with (stamp_in c.bytes item) (cond (is_read_zone c item) (stamped.Zone (length xs)) stamped.Other))) zones
   stamps_then before tracks vias zones Drawing = unstamped
   stamps_then before tracks vias zones (Pad footprint) = picked (λ (r : State). r.stamps) (is_read_pad c item) _ _ _ unstamped unstamped
   stamps_then before tracks vias zones FootprintDrawing = unstamped
@@ -191,7 +189,7 @@ pub record IsFound (c : Context) (s : State) (before : List Placed) : Type 0 whe
   pub edges : s.edges ≡ edges_in c before
   pub stamps : s.stamps ≡ with_stamps [] (stamps_after c [] before)
 
-pub none_found : (c : Context) → IsFound c nothing []
+pub none_found : (c : Context) → IsFound c nothing_read_yet []
 unfolding stamps_after with_stamps
 none_found c = record { tracks = refl; vias = refl; pads = refl; zones = refl; areas = refl; edges = refl; stamps = refl }
 
@@ -211,7 +209,7 @@ stamps_join table [] ys = refl
 stamps_join table (x ∷ xs) ys = stamps_join (with_stamp table x.0 x.1) xs ys
 
 next_found : (c : Context) (s : State) (before : List Placed) (p : Placed) → has_few c ≡ true → IsFound c s before → IsFound c (after c s p) (before ++ p ∷ [])
-unfolding after
+unfolding after stamped_behind
 next_found c s before p few h =
     let t = thing_of c.bytes p in
     record {
@@ -223,7 +221,7 @@ next_found c s before p few h =
       edges = edges_after c few s p.item t ∙ ap (λ xs. xs ++ edges_from c p.item t) h.edges ∙ sym (edges_last (λ (q : Placed). edges_from c q.item (thing_of c.bytes q)) before p);
       stamps =
           stamps_then c few s p.item before h.tracks h.vias h.zones t
-          ∙ ap (λ table. with_stamps table (stamp_with (stamp_in c.bytes p.item) (stamped_as c before p.item t))) h.stamps
+          ∙ ap (λ table. with_stamps table (stamp_with (stamp_as c.bytes p.item t) (stamped_as c before p.item t))) h.stamps
           ∙ stamps_join [] (stamps_after c [] before) (stamp_at c before p)
           ∙ ap (with_stamps []) (sym (stamps_last c [] before p));
     }

@@ -2,11 +2,9 @@ pub mod Running
 pub mod Marked
 pub mod Found
 pub mod First
-pub mod Few
 pub mod Rooms
 pub mod Kept
 pub mod LineFeeds
 pub mod Parts
 pub mod Whole
-pub mod Places
-pub mod OneOffence
+pub mod OneStamp

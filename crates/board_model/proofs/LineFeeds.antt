@@ -1,7 +1,7 @@
 -- Lines are counted by the line feeds before them.
 use Rattle.std.proofs.Common.{◌≡◌, ◌+◌, ◌∙◌, ap, sym, arith, take, ℕ, suc, List}
 use Rattle.std.specs.Prelude.{count_by, ◌==◌}
-use Rattle.board_language.specs.Items.{line_of}
+use Rattle.board_text.specs.Items.{line_of}
 
 one_more : (n : ℕ) → 1 + n ≡ suc n
 one_more n = omega arith

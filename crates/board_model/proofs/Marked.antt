@@ -6,17 +6,17 @@ use Rattle.std.proofs.lemmas.List.Elements.{filter_map-append}
 use Rattle.std.proofs.lemmas.List.Sums.{sum_by-append, sum_by-cons}
 use Rattle.sexpr_text.specs.Items.{Item}
 use Rattle.std.specs.Str.{bytes_eq}
-use Rattle.board_language.specs.Layers.{Name, is_among}
-use Rattle.board_language.specs.Things.{Placed, Thing, Board, Layers, Net, Track, CurvedTrack, Via, Footprint, RuleArea, Zone, Drawing, Pad, FootprintDrawing, FootprintZone, Other, thing_of}
-use Rattle.board_language.specs.Items.{Context, stamp_in}
+use Rattle.board_text.specs.Layers.{Name, is_among}
+use Rattle.board_text.specs.Things.{Placed, Thing, Board, Layers, Net, Track, CurvedTrack, Via, Footprint, RuleArea, Zone, Drawing, Pad, FootprintDrawing, FootprintZone, Other, thing_of}
+use Rattle.board_text.specs.Items.{Context, stamp_in}
 use Rattle.board_language.specs.Counts.{things_of, things_as, outlines_of, outlines_as}
 use Rattle.board_language.specs.Pads.{is_read_pad}
 use Rattle.board_language.specs.Zones.{is_read_zone, is_read_area}
 use Rattle.board_language.specs.Offences.{has_layers, is_layers, nets_among, net_as, net_number, stamps_among, stamp_as, stamp_of_placed}
-use Rattle.board_items.specs.declared.stamps.Stamped.{Stamped}
+use Rattle.board_text.specs.declared.stamped.Stamped.{Stamped}
 use Rattle.board_items.specs.Stamps.{Table, stamps_of, with_stamps}
 use Rattle.board_items.proofs.StampTables.{among_all}
-use Rattle.board_model.specs.State.{State, nothing}
+use Rattle.board_model.specs.State.{State, nothing_read_yet}
 use Rattle.board_model.specs.Steps.{after_as, put, put_stamp}
 use Rattle.board_model.specs.Run.{after}
 
@@ -180,7 +180,7 @@ pub record Marked (c : Context) (s : State) (before : List Placed) : Type 0 wher
   pub things : s.things ≡ sum_by (things_of c) before
   pub outlines : s.outlines ≡ sum_by (outlines_of c) before
 
-pub none_marked : (c : Context) → Marked c nothing []
+pub none_marked : (c : Context) → Marked c nothing_read_yet []
 unfolding nets_among stamps_among
 none_marked c = record { layers = refl; nets = refl; stamps = λ name. refl; things = refl; outlines = refl }
 

@@ -1,12 +1,11 @@
 -- Parts that are read one after another: what was read so far, and what follows.
-use Rattle.std.proofs.Common.{◌≡◌, ◌∙◌, ap, sym, refl, subst, ℕ, zero, suc, ◌+◌, ◌<◌, ◌≤◌, List, [], ◌∷◌, ◌++◌, map, length, take, drop, get_or, arith, add-one, append-nil, append_assoc, take-append-drop}
+use Rattle.std.proofs.Common.{◌≡◌, ◌∙◌, ap, sym, refl, subst, ℕ, zero, suc, ◌+◌, ◌<◌, ◌≤◌, List, [], ◌∷◌, ◌++◌, map, length, take, drop, get_or, arith, add-one, append-nil, append_assoc, take-append-drop, drop-cons}
 use Rattle.std.specs.List.{flat_map}
 use Rattle.std.proofs.lemmas.List.Concat.{flat_map-append}
-use Rattle.std.proofs.Common.{drop-cons}
 use Rattle.sexpr_text.specs.Items.{Item}
-use Rattle.text_items.specs.Parts.{Part, part_of}
-use Rattle.board_language.specs.Things.{Placed}
-use Rattle.board_language.specs.Items.{Context}
+use Rattle.sexpr_text.specs.Parts.{Part, part_of}
+use Rattle.board_text.specs.Things.{Placed}
+use Rattle.board_text.specs.Items.{Context}
 use Rattle.board_model.specs.declared.error.BoardError.{BoardError}
 use Rattle.board_model.specs.State.{State}
 use Rattle.board_model.specs.Run.{AreRead, IsStop}

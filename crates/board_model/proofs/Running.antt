@@ -4,13 +4,13 @@ use Rattle.board_language.specs.declared.offence.OffenceKind.{OffenceKind}
 use Rattle.std.proofs.lemmas.Bool.{false≢true}
 use Rattle.sexpr_text.specs.Items.{Item}
 use Rattle.board_language.specs.Offences.{board_kind}
-use Rattle.board_language.specs.Things.{Placed, thing_of}
-use Rattle.board_language.specs.Items.{Context, line_of}
+use Rattle.board_text.specs.Things.{Placed, thing_of}
+use Rattle.board_text.specs.Items.{Context, line_of}
 use Rattle.board_model.specs.Steps.{IsKindBy}
-use Rattle.board_model.specs.declared.error.Offence.{Offence}
+use Rattle.board_language.specs.declared.offence.Offence.{Offence}
 use Rattle.board_model.specs.declared.error.BoardError.{BoardError}
 use Rattle.board_model.specs.declared.error.BoardError.TheVariants.{Memory, Bad}
-use Rattle.board_model.specs.State.{State, nothing}
+use Rattle.board_model.specs.State.{State, nothing_read_yet}
 use Rattle.board_model.specs.Run.{after, after_all, AreSoundFrom, OffendsFirst, AreRead, IsStop, IsTried, IsOf, the_board}
 
 state_join : (c : Context) (s : State) (xs ys : List Placed) → after_all c (after_all c s xs) ys ≡ after_all c s (xs ++ ys)
@@ -70,7 +70,7 @@ stop_one c s p new kind line (Bad o) h l e =
     })
 
 -- the board itself, of which nothing is read
-pub root_tried : (c : Context) (item : Item) (kind : Option OffenceKind) → kind ≡ board_kind c item → IsTried c nothing item (thing_of c.bytes (the_board item)) nothing kind
+pub root_tried : (c : Context) (item : Item) (kind : Option OffenceKind) → kind ≡ board_kind c item → IsTried c nothing_read_yet item (thing_of c.bytes (the_board item)) nothing_read_yet kind
 unfolding thing_of
 root_tried c item kind e = record { is_kind = record { outline = None; is_outline = λ h. absurd (false≢true h); is_kind = e }; after = λ h. refl }
 

@@ -1,15 +1,10 @@
--- What holds of boards and their offences.
+-- What holds of the stamps of a board.
 use Rattle.std.specs.Prelude.{◌≡◌, ℕ, List}
 use Rattle.sexpr_text.specs.Items.{Item}
-use Rattle.board_language.specs.declared.offence.OffenceKind.{OffenceKind}
-use Rattle.board_language.specs.Reading.{IsAccepted, IsOffence}
+use Rattle.board_items.specs.Stamps.{stamped}
+use Rattle.board_language.specs.Stamps.{stamp_of}
+use Rattle.board_model.specs.Whole.{stamps_of_board}
 
--- at most one offence is the first
-abbrev pub OneOffenceLaw : Type 0
-OneOffenceLaw =
-    (bytes : List ℕ) (root : Item) (at line at' line' : ℕ) (kind kind' : OffenceKind) → IsOffence bytes root at line kind → IsOffence bytes root at' line' kind'
-    → (at ≡ at') × (line ≡ line') × (kind ≡ kind')
-
--- an accepted board has none
-abbrev pub NoOffenceLaw : Type 0
-NoOffenceLaw = (bytes : List ℕ) (root : Item) (at line : ℕ) (kind : OffenceKind) → IsAccepted bytes root → IsOffence bytes root at line kind → ⊥
+-- among the stamps of a board each belongs to the thing that the definition says
+abbrev pub StampLaw : Type 0
+StampLaw = (text : List ℕ) (root : Item) (stamp : List ℕ) → stamped (stamps_of_board text root) stamp ≡ stamp_of text root stamp

@@ -2,9 +2,9 @@
 use Rattle.std.specs.Prelude.{◌≡◌, ◌⊎◌, ℕ, ⊤, List, [], ◌∷◌, Option, None, Some}
 use Rattle.sexpr_text.specs.Items.{Item}
 use Rattle.board_language.specs.declared.offence.OffenceKind.{OffenceKind}
-use Rattle.board_language.specs.Things.{Placed, Root, OnBoard, InFootprint, Thing, thing_of}
-use Rattle.board_language.specs.Items.{Context, line_of}
-use Rattle.board_model.specs.declared.error.Offence.{Offence}
+use Rattle.board_text.specs.Things.{Placed, Root, OnBoard, InFootprint, Thing, thing_of}
+use Rattle.board_text.specs.Items.{Context, line_of}
+use Rattle.board_language.specs.declared.offence.Offence.{Offence}
 use Rattle.board_model.specs.declared.error.BoardError.{BoardError}
 use Rattle.board_model.specs.declared.error.BoardError.TheVariants.{Memory, Bad}
 use Rattle.board_model.specs.State.{State}

@@ -23,8 +23,8 @@ pub record State : Type 0 where
   pub edges : List Edge
 
 -- before the first item
-abbrev pub nothing : State
-nothing = record {
+abbrev pub nothing_read_yet : State
+nothing_read_yet = record {
   layers = false;
   things = 0;
   outlines = 0;

@@ -4,17 +4,17 @@ use Rattle.sexpr_text.specs.Items.{Item}
 use Rattle.outline_slab.specs.declared.error.OutlineFault.{OutlineFault}
 use Rattle.board_language.specs.declared.offence.OffenceKind.{OffenceKind}
 use Rattle.board_language.specs.declared.offence.OffenceKind.TheVariants as kinds
-use Rattle.board_language.specs.Layers.{Name}
-use Rattle.board_language.specs.Things.{Thing, Board, Layers, Net, Track, CurvedTrack, Via, Footprint, RuleArea, Zone, Drawing, Pad, FootprintDrawing, FootprintZone, Other}
-use Rattle.board_language.specs.Items.{Context, declared_net, stamp_in}
+use Rattle.board_text.specs.Layers.{Name}
+use Rattle.board_text.specs.Things.{Thing, Board, Layers, Net, Track, CurvedTrack, Via, Footprint, RuleArea, Zone, Drawing, Pad, FootprintDrawing, FootprintZone, Other}
+use Rattle.board_text.specs.Items.{Context, declared_net, stamp_in}
 use Rattle.board_language.specs.Counts.{is_first_over}
 use Rattle.board_language.specs.Tracks.{track_of, via_of}
 use Rattle.board_language.specs.Pads.{is_read_pad, pad_of}
-use Rattle.board_language.specs.Zones.{is_read_zone, is_read_area, zone_of, area_of, corners_of}
-use Rattle.board_language.specs.Edges.{edges_of}
+use Rattle.board_language.specs.Zones.{is_read_zone, is_read_area, zone_of, area_of, corners_read}
+use Rattle.board_language.specs.Edges.{edges_read}
 use Rattle.board_language.specs.Offences.{board_kind, layers_kind, net_kind, track_kind, via_kind, footprint_kind, pad_kind, zone_kind, area_kind, stamp_kind, drawing_kind, footprint_drawing_kind, is_declared_among, is_stamped_among, has_outline, IsOutlineResult}
-use Rattle.board_items.specs.declared.stamps.Stamped.{Stamped}
-use Rattle.board_items.specs.declared.stamps.Stamped.TheVariants as stamped
+use Rattle.board_text.specs.declared.stamped.Stamped.{Stamped}
+use Rattle.board_text.specs.declared.stamped.Stamped.TheVariants as stamped
 use Rattle.board_items.specs.Stamps.{Table, stamps_of, with_stamp}
 use Rattle.board_model.specs.State.{State}
 
@@ -38,7 +38,7 @@ kind_by c s item outline Footprint = footprint_kind c item
 kind_by c s item outline (Pad footprint) = cond (is_read_pad c item) (pad_kind c footprint item (is_over s 1 0)) None
 kind_by c s item outline Zone = cond (is_read_zone c item) (zone_kind c item outline (is_double c s item) (is_over s 1 1)) (stamp_kind (is_double c s item))
 kind_by c s item outline RuleArea = cond (is_read_area c item) (area_kind c item outline (is_double c s item) (is_over s 0 1)) (stamp_kind (is_double c s item))
-kind_by c s item outline Drawing = drawing_kind c item (is_over s (length (edges_of c.bytes item)) 0)
+kind_by c s item outline Drawing = drawing_kind c item (is_over s (length (edges_read c.bytes item)) 0)
 kind_by c s item outline FootprintDrawing = footprint_drawing_kind c item
 kind_by c s item outline FootprintZone = Some kinds.FootprintZone
 kind_by c s item outline Other = None
@@ -46,7 +46,7 @@ kind_by c s item outline Other = None
 -- how an item that is such a thing offends after what was read before it, or that it doesn't
 pub record IsKindBy (c : Context) (s : State) (item : Item) (thing : Thing) (kind : Option OffenceKind) : Type 0 where
   pub outline : Option OutlineFault
-  pub is_outline : has_outline c item thing ≡ true → IsOutlineResult (corners_of c.bytes item) outline
+  pub is_outline : has_outline c item thing ≡ true → IsOutlineResult (corners_read c.bytes item) outline
   pub is_kind : kind ≡ kind_by c s item outline thing
 
 -- ---- what is read after it
@@ -88,5 +88,5 @@ after_as c s item (Pad footprint) =
     cond (is_read_pad c item) (record s { things = s.things + 1; pads = put s.pads (kept c (pad_of c footprint item)) }) s
 after_as c s item Zone = cond (is_read_zone c item) (after_zone c s item) (record s { stamps = stamps_with c s item stamped.Other })
 after_as c s item RuleArea = cond (is_read_area c item) (after_area c s item) (record s { stamps = stamps_with c s item stamped.Other })
-after_as c s item Drawing = record s { things = s.things + length (edges_of c.bytes item); edges = s.edges ++ edges_of c.bytes item }
+after_as c s item Drawing = record s { things = s.things + length (edges_read c.bytes item); edges = s.edges ++ edges_read c.bytes item }
 after_as c s item _ = s

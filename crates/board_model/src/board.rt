@@ -4,15 +4,15 @@ ghost use Rattle.sexpr_text.specs.Items.{Item};
 ghost use Rattle.sexpr_text.specs.Trees.{IsTreeOf, IsTreeAt};
 ghost use Rattle.board_language.specs.Reading.{IsAccepted};
 ghost use Rattle.board_items.specs.Stamps.{stamped};
-ghost use Rattle.board_model.specs.Whole.{whole_of, IsRefusal};
+ghost use Rattle.board_model.specs.Whole.{whole_board, IsRefusal};
 
 use crate::error::BoardError;
 use crate::items::read_all;
-use crate::name::{Name, names_of};
-use crate::reading::Reading;
-use board_items::{Numbers, Stamped, known_of};
-use board_language::{Area, Edge, Pad, Rules, Track, Via, Zone};
-use board_parts::Part;
+use crate::names::names_of;
+use crate::reading::ReadSoFar;
+use board_items::{Numbers, known_of};
+use board_language::{Area, Edge, Name, Pad, Rules, Stamped, Track, Via, Zone};
+use board_text::Part;
 use sexpr_text::Tree;
 use std::alloc::Global;
 use std::marker::Model;
@@ -22,7 +22,7 @@ use std::marker::Model;
 pub struct Board {
     layers: Vec<Name>,
     nets: Numbers,
-    found: Reading,
+    found: ReadSoFar,
     rules: Rules,
 }
 
@@ -56,7 +56,7 @@ impl Board {
     /// Want of memory, or the first offence.
     pub fn read(alloc: Global, bytes: &[u8], tree: &Tree, rules: Rules) -> Result<Board, BoardError>
         requires { IsTreeOf bytes.now tree.now }
-        ensures board { IfOk result (λ b. (root : Item) → IsTreeAt bytes.now tree.now root → IsAccepted bytes.now root × (b ≡ whole_of bytes.now root rules)) }
+        ensures board { IfOk result (λ b. (root : Item) → IsTreeAt bytes.now tree.now root → IsAccepted bytes.now root × (b ≡ whole_board bytes.now root rules)) }
         ensures refused { IfErr result (λ e. (root : Item) → IsTreeAt bytes.now tree.now root → IsRefusal bytes.now root e) }
     {
         let root = Part::root(tree, bytes);

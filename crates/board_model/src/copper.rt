@@ -1,21 +1,19 @@
 // Nets, tracks, vias and drawings: each is tried after what was read before it, and then read.
 ghost use Rattle.std.specs.Prelude.{◌≡◌, ◌+◌, ◌<◌, ◌≤◌, ◌++◌, length, option_map, OnOk, IfOk, None};
-ghost use Rattle.board_language.specs.Things as things;
-ghost use Rattle.board_language.specs.Items.{line_of};
+ghost use Rattle.board_text.specs.Things as things;
+ghost use Rattle.board_text.specs.Items.{line_of};
 ghost use Rattle.board_language.specs.Tracks.{track_of, via_of};
 ghost use Rattle.board_language.specs.Offences.{is_declared_among};
 ghost use Rattle.board_items.specs.Known.{context};
-ghost use Rattle.board_items.specs.declared.stamps.Stamped.TheVariants as stamped;
+ghost use Rattle.board_text.specs.declared.stamped.Stamped.TheVariants as stamped;
 ghost use Rattle.board_model.specs.Steps.{kind_by, after_as, put, kept, put_stamp};
 
-use crate::reading::{Reading, has_few};
+use crate::reading::{ReadSoFar, has_few};
 use board_edges::{drawing_kind, edges_of};
-use board_items::{
-    Known, Numbers, Stamped, declared_net, net_kind, stamp_in, track_kind, track_of, via_kind,
-    via_of,
-};
+use board_items::{Known, Numbers, declared_net, stamp_in};
 use board_language::{Edge, OffenceKind, Track, Via};
-use board_parts::Part;
+use board_text::{Part, Stamped};
+use board_tracks::{net_kind, track_kind, track_of, via_kind, via_of};
 use grid_num::Memory;
 use std::alloc::Global;
 
@@ -58,7 +56,7 @@ fn via_kept(alloc: Global, known: &Known, item: &Part<'_>, line: u64) -> Result<
     }
 }
 
-impl Reading {
+impl ReadSoFar {
     /// Puts the stamp of a thing behind the others, where it has one.
     pub fn put_stamp(&mut self, stamp: Option<Vec<u8>>, thing: Stamped) -> Result<(), Memory>
         ensures { OnOk result (self.new ≡ record self.old { stamps = put_stamp self.old.stamps (option_map (λ v. v.items) stamp) thing }) }

@@ -1,17 +1,7 @@
 // Why a board is refused.
-use board_language::OffenceKind;
+use board_language::Offence;
 use grid_num::Memory;
 use thiserror::Error;
-
-/// The first offence in a board.
-#[derive(Clone, Copy, Debug, PartialEq, Eq)]
-pub struct Offence {
-    /// The place of the item in the text, in bytes.
-    pub at: usize,
-    /// The line of that place, from 1.
-    pub line: u64,
-    pub kind: OffenceKind,
-}
 
 /// Why a board isn't read.
 #[derive(Clone, Copy, Debug, PartialEq, Eq, Error)]

@@ -1,23 +1,24 @@
 // The items of a board, one after another: each is tried after those before it and read, up to the first that offends.
 ghost use Rattle.std.specs.Prelude.{◌≡◌, ◌∷◌, [], ◌++◌, map, IfOk, IfErr, None};
 ghost use Rattle.std.specs.List.{flat_map};
-ghost use Rattle.board_fields.specs.Lists.{lists_of};
-ghost use Rattle.board_language.specs.Items.{line_of};
-ghost use Rattle.board_language.specs.Things as things;
-ghost use Rattle.board_language.specs.Things.{on_board, of_footprint, with_own, items_of_board};
+ghost use Rattle.board_text.specs.Lists.{lists_of};
+ghost use Rattle.board_text.specs.Items.{line_of};
+ghost use Rattle.board_text.specs.Things as things;
+ghost use Rattle.board_text.specs.Things.{on_board, of_footprint, with_own, items_of_board};
 ghost use Rattle.board_items.specs.Known.{context};
-ghost use Rattle.board_model.specs.State.{nothing};
+ghost use Rattle.board_model.specs.State.{nothing_read_yet};
 ghost use Rattle.board_model.specs.Steps.{kind_by, after_as};
 ghost use Rattle.board_model.specs.Run.{IsTried, IsOf, AreRead, IsStop, the_board, on_the_board, in_the_footprint};
 
-use crate::error::{BoardError, Offence};
+use crate::error::BoardError;
 use crate::lines::Lines;
-use crate::reading::Reading;
+use crate::reading::ReadSoFar;
 use board_edges::footprint_drawing_kind;
-use board_items::{Known, Own, Thing, board_kind, layers_kind, thing_in_footprint, thing_on_board};
-use board_language::OffenceKind;
+use board_items::{Known, Own, Thing, thing_in_footprint, thing_on_board};
+use board_language::{Offence, OffenceKind};
 use board_pads::footprint_kind;
-use board_parts::Part;
+use board_text::Part;
+use board_tracks::{board_kind, layers_kind};
 use grid_num::Memory;
 use std::alloc::Global;
 
@@ -36,7 +37,7 @@ fn stopped(item: &Part<'_>, line: u64, kind: Option<OffenceKind>) -> Result<(), 
     }
 }
 
-impl Reading {
+impl ReadSoFar {
     /// Tries a list of layers: of several the first counts.
     fn layers(
         &mut self,
@@ -209,8 +210,8 @@ fn try_root(
 ) -> Result<(), BoardError>
     requires text { lines.old ≡ root.now.bytes }
     ensures text { lines.new ≡ lines.old }
-    ensures ok { IfOk result (λ _. AreRead (context root.now.bytes known.now) nothing (the_board root.now.item ∷ []) nothing) }
-    ensures err { IfErr result (IsStop (context root.now.bytes known.now) nothing (the_board root.now.item ∷ [])) }
+    ensures ok { IfOk result (λ _. AreRead (context root.now.bytes known.now) nothing_read_yet (the_board root.now.item ∷ []) nothing_read_yet) }
+    ensures err { IfErr result (IsStop (context root.now.bytes known.now) nothing_read_yet (the_board root.now.item ∷ [])) }
 {
     let line = lines.line_of(root.span().from);
     let kind = board_kind(alloc, known, root)?;
@@ -218,13 +219,13 @@ fn try_root(
 }
 
 /// Reads all items of a board, up to the first that offends.
-pub fn read_all(alloc: Global, known: &Known, root: &Part<'_>) -> Result<Reading, BoardError>
-    ensures ok { IfOk result (AreRead (context root.now.bytes known.now) nothing (items_of_board root.now.bytes root.now.item)) }
-    ensures err { IfErr result (IsStop (context root.now.bytes known.now) nothing (items_of_board root.now.bytes root.now.item)) }
+pub fn read_all(alloc: Global, known: &Known, root: &Part<'_>) -> Result<ReadSoFar, BoardError>
+    ensures ok { IfOk result (AreRead (context root.now.bytes known.now) nothing_read_yet (items_of_board root.now.bytes root.now.item)) }
+    ensures err { IfErr result (IsStop (context root.now.bytes known.now) nothing_read_yet (items_of_board root.now.bytes root.now.item)) }
 {
     let mut lines = Lines::of(root.bytes());
     try_root(alloc, known, &mut lines, root)?;
-    let mut reading = Reading::new(alloc);
+    let mut reading = ReadSoFar::new(alloc);
     reading.read_lists(alloc, known, &mut lines, root)?;
     Ok(reading)
 }

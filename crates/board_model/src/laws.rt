@@ -1,8 +1,7 @@
-// Laws of boards and their offences, for the layers above. Each is the contract of a function that does nothing.
-ghost use Rattle.board_model.specs.Laws.{OneOffenceLaw, NoOffenceLaw};
+// What a board says of a stamp, for the layers above: the contract of a function that does nothing.
+ghost use Rattle.board_model.specs.Laws.{StampLaw};
 
-/// A board has at most one first offence, and an accepted one has none.
-pub fn one_offence_law()
-    ensures one { OneOffenceLaw }
-    ensures none { NoOffenceLaw }
+/// What a board that was read says of a stamp is what `board_language` says of it.
+pub fn stamp_law()
+    ensures { StampLaw }
 {}

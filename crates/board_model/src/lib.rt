@@ -9,15 +9,15 @@ mod error;
 mod items;
 mod laws;
 mod lines;
-mod name;
+mod names;
 mod pads;
 mod reading;
-#[cfg(test)]
-mod tests;
 mod zones;
 
 pub use board::Board;
-pub use board_items::Stamped;
-pub use error::{BoardError, Offence};
-pub use laws::one_offence_law;
-pub use name::Name;
+pub use board_language::{
+    Area, Edge, FillSpans, Join, Name, Offence, OffenceKind, Pad, PadKind, Rules, Stamped, Track,
+    Via, Zone, ZoneSpans, one_offence_law,
+};
+pub use error::BoardError;
+pub use laws::stamp_law;

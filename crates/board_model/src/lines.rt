@@ -1,6 +1,6 @@
 // The lines of places in a text.
 ghost use Rattle.std.specs.Prelude.{◌≡◌, ◌+◌, ◌≤◌, length};
-ghost use Rattle.board_language.specs.Items.{line_of};
+ghost use Rattle.board_text.specs.Items.{line_of};
 
 use std::marker::Model;
 
@@ -14,7 +14,7 @@ pub struct Lines<'a> {
 
 impl<'a> Model for Lines<'a> {
     ghost use Rattle.std.specs.Prelude.{◌≡◌, ◌+◌, ◌≤◌, ℕ, List, length};
-    ghost use Rattle.board_language.specs.Items.{line_of};
+    ghost use Rattle.board_text.specs.Items.{line_of};
 
     ghost Value = { List ℕ };
 
@@ -53,7 +53,7 @@ impl<'a> Lines<'a> {
 }
 
 /// The place, or the end of the text where it lies behind that: both are on one line.
-#[tactic(auto, unfolding(board_language::specs::Items::line_of))]
+#[tactic(auto, unfolding(board_text::specs::Items::line_of))]
 fn place_within(bytes: &[u8], place: usize) -> usize
     ensures most { result ≤ length bytes.now }
     ensures line { line_of bytes.now result ≡ line_of bytes.now place }
@@ -66,7 +66,7 @@ fn place_within(bytes: &[u8], place: usize) -> usize
 }
 
 /// The line of a place, counted from the front.
-#[tactic(auto, unfolding(board_language::specs::Items::line_of))]
+#[tactic(auto, unfolding(board_text::specs::Items::line_of))]
 fn first_lines(bytes: &[u8], to: usize) -> u64
     requires { to ≤ length bytes.now }
     ensures value { result ≡ line_of bytes.now to }

@@ -1,17 +1,17 @@
 // Pads: each is tried after what was read before it, and then read.
 ghost use Rattle.std.specs.Prelude.{◌≡◌, ◌+◌, ◌<◌, Bool, OnOk, IfOk, None};
-ghost use Rattle.board_language.specs.Things as things;
-ghost use Rattle.board_language.specs.Items.{line_of};
+ghost use Rattle.board_text.specs.Things as things;
+ghost use Rattle.board_text.specs.Items.{line_of};
 ghost use Rattle.board_language.specs.Pads.{pad_of};
 ghost use Rattle.board_language.specs.Offences as offences;
 ghost use Rattle.board_items.specs.Known.{context};
 ghost use Rattle.board_model.specs.Steps.{kind_by, after_as, put, kept};
 
-use crate::reading::{Reading, has_few};
+use crate::reading::{ReadSoFar, has_few};
 use board_items::Known;
 use board_language::{OffenceKind, Pad};
 use board_pads::{is_read_pad, pad_kind, pad_of};
-use board_parts::Part;
+use board_text::Part;
 use grid_num::Memory;
 use std::alloc::Global;
 
@@ -35,7 +35,7 @@ fn pad_kept(
     }
 }
 
-impl Reading {
+impl ReadSoFar {
     /// Counts a pad, and puts it behind the others.
     fn add_pad(&mut self, pad: Option<Pad>) -> Result<(), Memory>
         requires room { self.old.things < 200000 }

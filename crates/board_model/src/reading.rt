@@ -4,17 +4,18 @@ ghost use Rattle.board_language.specs.Counts.{is_first_over};
 ghost use Rattle.board_language.specs.Offences.{is_stamped_among};
 ghost use Rattle.board_items.specs.Known.{context};
 ghost use Rattle.board_items.specs.Stamps.{stamps_of, stamped};
-ghost use Rattle.board_model.specs.State.{nothing};
+ghost use Rattle.board_model.specs.State.{nothing_read_yet};
 ghost use Rattle.board_model.specs.Steps.{is_over, has_few};
 
-use board_items::{Known, Numbers, Stamped, Stamps};
+use board_items::{Known, Numbers, Stamps};
 use board_language::{Area, Edge, Pad, Track, Via, Zone};
+use board_text::Stamped;
 use std::alloc::Global;
 use std::marker::Model;
 
 /// What has been read of a board so far: its things, and what the items that follow are tried with.
 #[derive(Drop)]
-pub struct Reading {
+pub struct ReadSoFar {
     pub layers: bool,
     pub things: u32,
     pub outlines: u32,
@@ -28,7 +29,7 @@ pub struct Reading {
     pub edges: Vec<Edge>,
 }
 
-impl Model for Reading {
+impl Model for ReadSoFar {
     ghost use Rattle.std.specs.Prelude.{◌≤◌, length};
     ghost use Rattle.board_model.specs.State.{State};
 
@@ -51,12 +52,12 @@ impl Model for Reading {
     ghost invariant = { λ r. (r.things ≤ 200000) × (r.outlines ≤ 2000) × (length r.tracks.items ≤ r.things) × (length r.vias.items ≤ r.things) × (length r.zones.items ≤ r.things) };
 }
 
-impl Reading {
+impl ReadSoFar {
     /// Before the first item.
-    pub fn new(alloc: Global) -> Reading
-        ensures { result ≡ nothing }
+    pub fn new(alloc: Global) -> ReadSoFar
+        ensures { result ≡ nothing_read_yet }
     {
-        Reading {
+        ReadSoFar {
             layers: false,
             things: 0,
             outlines: 0,

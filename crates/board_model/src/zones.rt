@@ -1,18 +1,18 @@
 // Zones and rule areas: each is tried after what was read before it, and then read.
 ghost use Rattle.std.specs.Prelude.{◌≡◌, ◌+◌, ◌<◌, length, option_map, OnOk, IfOk, None};
-ghost use Rattle.board_language.specs.Things as things;
-ghost use Rattle.board_language.specs.Items.{line_of};
+ghost use Rattle.board_text.specs.Things as things;
+ghost use Rattle.board_text.specs.Items.{line_of};
 ghost use Rattle.board_language.specs.Zones.{zone_of, area_of};
 ghost use Rattle.board_language.specs.Offences.{stamp_kind};
 ghost use Rattle.board_items.specs.Known.{context};
-ghost use Rattle.board_items.specs.declared.stamps.Stamped.TheVariants as stamped;
-ghost use Rattle.board_zones.specs.Kinds.{IsSoundZone, IsSoundArea};
+ghost use Rattle.board_text.specs.declared.stamped.Stamped.TheVariants as stamped;
+ghost use Rattle.board_zones.specs.Kinds.{IsZoneWithoutOffence, IsAreaWithoutOffence};
 ghost use Rattle.board_model.specs.Steps.{IsKindBy, after_as, put, kept, put_stamp};
 
-use crate::reading::{Reading, has_few};
-use board_items::{Known, Stamped, stamp_in, when};
-use board_language::{Area, OffenceKind, Zone};
-use board_parts::Part;
+use crate::reading::{ReadSoFar, has_few};
+use board_items::{Known, stamp_in};
+use board_language::{Area, OffenceKind, Zone, when};
+use board_text::{Part, Stamped};
 use board_zones::{area_kind, area_of, is_read_area, is_read_zone, zone_kind, zone_of};
 use grid_num::Memory;
 use std::alloc::Global;
@@ -25,7 +25,7 @@ fn zone_kept(
     line: u64,
 ) -> Result<Option<Zone>, Memory>
     requires line { line ≡ line_of item.now.bytes item.now.item.from }
-    requires sound { IsSoundZone (context item.now.bytes known.now) item.now.item }
+    requires sound { IsZoneWithoutOffence (context item.now.bytes known.now) item.now.item }
     ensures { IfOk result (λ z. z ≡ kept (context item.now.bytes known.now) (zone_of (context item.now.bytes known.now) item.now.item)) }
 {
     if has_few(known) {
@@ -37,7 +37,7 @@ fn zone_kept(
 
 /// The rule area that is read of an item, of a board with few layers.
 fn area_kept(alloc: Global, known: &Known, item: &Part<'_>) -> Result<Option<Area>, Memory>
-    requires sound { IsSoundArea (context item.now.bytes known.now) item.now.item }
+    requires sound { IsAreaWithoutOffence (context item.now.bytes known.now) item.now.item }
     ensures { IfOk result (λ a. a ≡ kept (context item.now.bytes known.now) (area_of (context item.now.bytes known.now) item.now.item)) }
 {
     if has_few(known) {
@@ -47,7 +47,7 @@ fn area_kept(alloc: Global, known: &Known, item: &Part<'_>) -> Result<Option<Are
     }
 }
 
-impl Reading {
+impl ReadSoFar {
     /// Tries a zone or rule area that isn't read: its stamp counts alone.
     fn stamp(&mut self, stamp: Option<Vec<u8>>, double: bool) -> Result<Option<OffenceKind>, Memory>
         ensures kind { IfOk result (λ k. k ≡ stamp_kind double) }

@@ -2,8 +2,8 @@
 use Rattle.std.proofs.Common.{◌≡◌, ℕ, ◌+◌, ◌<◌, ◌≤◌, Bool, true, false, ◌&&◌, cond, List, [], ◌∷◌, length, drop, filter, get_or, refl, sym, ap, ◌∙◌, Option, Some, None}
 use Rattle.std.specs.Prelude.{find, option_map}
 use Rattle.sexpr_text.specs.Items.{Item}
-use Rattle.text_items.specs.Parts.{Part, part_of}
-use Rattle.board_parts.proofs.Walks.{drop_here, drop_past}
+use Rattle.sexpr_text.specs.Parts.{Part, part_of}
+use Rattle.board_text.proofs.Walks.{drop_here, drop_past}
 
 find_yes : (test : Item → Bool) (x : Item) (xs : List Item) → test x ≡ true → find test (x ∷ xs) ≡ Some x
 find_yes test x xs e = rw e refl

@@ -3,10 +3,10 @@ use Rattle.std.proofs.Common.{◌≡◌, ℕ, ◌+◌, Bool, true, false, cond, 
 use Rattle.std.specs.Prelude.{slice_get, codes, ℤ}
 use Rattle.grid_num.specs.declared.read.NumFault.{NumFault}
 use Rattle.sexpr_text.specs.Items.{Item}
-use Rattle.board_fields.specs.Lists.{is_list}
-use Rattle.text_items.specs.Parts.{Part, part_of}
-use Rattle.board_language.specs.Fields.{is_text, text_of}
-use Rattle.board_language.specs.Numbers.{first_of, item_fault, length_fault}
+use Rattle.board_text.specs.Lists.{is_list}
+use Rattle.sexpr_text.specs.Parts.{Part, part_of}
+use Rattle.board_text.specs.Fields.{is_text, text_of}
+use Rattle.board_text.specs.Numbers.{first_of, item_fault, length_fault}
 use Rattle.board_language.specs.Pads.{without_oval, drill_items, drill_width, drill_height}
 use Rattle.board_pads.specs.Drills.{leaves_of, first_text, length_shown, fault_shown, shown_or}
 

@@ -6,7 +6,7 @@ use Rattle.board_language.specs.Pads.{is_read_pad}
 use Rattle.board_items.specs.Known.{context}
 use Rattle.board_items.specs.declared.Known.{Known}
 use Rattle.sexpr_text.specs.Items.{Item, is_headed}
-use Rattle.text_items.specs.Parts.{Part, part_of}
+use Rattle.sexpr_text.specs.Parts.{Part, part_of}
 
 -- one of the items that are kept passes
 any_kept : (keep test : Item → Bool) (xs : List Item) → list_any (λ x. keep x && test x) xs ≡ list_any test (filter keep xs)

@@ -3,7 +3,7 @@ use Rattle.std.proofs.Common.{◌≡◌, ℕ, List, sym, ap, ◌∙◌}
 use Rattle.std.specs.Prelude.{codes, ◌+ℤ◌}
 use Rattle.grid_num.specs.declared.Point.{Point}
 use Rattle.sexpr_text.specs.Items.{Item}
-use Rattle.board_language.specs.Items.{point_in}
+use Rattle.board_text.specs.Items.{point_in}
 use Rattle.board_language.specs.Pads.{pad_place, turned_by, turns_in}
 
 abbrev sum : Point → Point → Point

@@ -1,5 +1,5 @@
 -- What a pad that doesn't offend has in its ranges.
-use Rattle.std.proofs.Common.{◌≡◌, ℕ, zero, suc, ◌+◌, ◌<◌, ◌≤◌, ◌%◌, Bool, true, false, ◌&&◌, ◌||◌, not, cond, max, List, [], ◌∷◌, refl, sym, ap, ◌∙◌, arith, Option, Some, None, is_some, nat_lt}
+use Rattle.std.proofs.Common.{◌≡◌, ℕ, zero, suc, ◌+◌, ◌<◌, ◌≤◌, ◌%◌, Bool, true, false, ◌&&◌, ◌||◌, not, cond, max, List, [], ◌∷◌, get_or, refl, sym, ap, ◌∙◌, arith, Option, Some, None, is_some, nat_lt}
 use Rattle.std.specs.Prelude.{ℤ, pos, negsuc, codes, unwrap_or, ◌==◌}
 use Rattle.std.specs.Option.{option_or}
 use Rattle.std.specs.Int.RustNames.{unsigned_abs}
@@ -12,22 +12,17 @@ use Rattle.sexpr_text.specs.Items.{Item}
 use Rattle.board_language.specs.declared.offence.OffenceKind.{OffenceKind}
 use Rattle.board_language.specs.declared.offence.OffenceKind.TheVariants as kinds
 use Rattle.grid_num.specs.declared.read.NumFault.TheVariants.{OutOfRange}
-use Rattle.std.specs.List.{list_any}
-use Rattle.board_language.specs.Layers.{has_unknown}
-use Rattle.board_language.specs.Fields.{list_of}
-use Rattle.board_language.specs.Numbers.{first_of, length_at, point_fault, length_fault_at, whole_fault_at, ratio_fault_at}
-use Rattle.board_language.specs.Items.{Context, size_of, is_no_length, is_no_size, is_unknown_net, net_of}
-use Rattle.board_language.specs.Pads.{Size, pad_place, is_far, place_fault, pad_fault, is_hole, written_size, drilled_size, swapped, size_on_board, turns_in, ratio_in, drill_of, drill_width, drill_height, drill_fault, bridge_list, is_type, is_shape}
-use Rattle.board_language.specs.Offences.{first_kind, when, number, pad_kind, pad_is_bad, has_bad_drill, is_bad_ratio, pad_types, pad_shapes, is_chamfered, is_off_hole, pad_lacks, has_angle}
+use Rattle.board_text.specs.Fields.{list_of}
+use Rattle.board_text.specs.Numbers.{first_of, length_at}
+use Rattle.board_text.specs.Items.{Context, size_of, is_no_length, is_no_size}
+use Rattle.board_language.specs.Pads.{Size, pad_place, is_far, pad_fault, pad_faults, is_hole, written_size, drilled_size, swapped, size_on_board, turns_in, ratio_in, drill_of, drill_width, drill_height}
+use Rattle.board_language.specs.Offences.{when, number_offence, pad_kind, pad_kinds, pad_is_bad, has_bad_drill, is_bad_ratio}
+use Rattle.board_language.proofs.NoneOffends.{none_at}
 use Rattle.board_pads.specs.Ratios.{kept_ratio}
 use Rattle.board_pads.specs.Ranges.{IsInRanges}
 
 some_is_not : {X : Type 0} (x : X) → Some x ≡ None → ⊥
 some_is_not x e = false≢true (sym (ap is_some e))
-
-kind_none : (k rest : Option OffenceKind) → option_or k rest ≡ None → (k ≡ None) × (rest ≡ None)
-kind_none None rest e = (refl, e)
-kind_none (Some x) rest e = absurd (some_is_not x e)
 
 fault_none : (f rest : Option NumFault) → option_or f rest ≡ None → (f ≡ None) × (rest ≡ None)
 fault_none None rest e = (refl, e)
@@ -37,7 +32,7 @@ when_none : (k : OffenceKind) (t : Bool) → when k t ≡ None → t ≡ false
 when_none k true e = absurd (some_is_not k e)
 when_none k false e = refl
 
-number_none : (f : Option NumFault) → number f ≡ None → f ≡ None
+number_none : (f : Option NumFault) → number_offence f ≡ None → f ≡ None
 number_none None e = refl
 number_none (Some x) e = absurd (some_is_not _ e)
 
@@ -90,62 +85,24 @@ drilled_small bytes pad h d = by_case (is_hole bytes pad) refl d
         rw e (omega (arith, h.0, w), omega (arith, h.1, t))
     by_case false e d = rw e h
 
--- all of a pad's kinds, and all of its faults, in their order
-abbrev kinds_of : Context → Item → Item → Bool → List (Option OffenceKind)
-kinds_of c footprint pad many =
-    when kinds.PadType (not (list_any (λ name. is_type c.bytes name pad) pad_types))
-    ∷ when kinds.PadShape (not (list_any (λ name. is_shape c.bytes name pad) pad_shapes) || is_chamfered c.bytes pad)
-    ∷ when kinds.PadOffset (is_off_hole c.bytes pad)
-    ∷ when kinds.MissingPart (pad_lacks c.bytes pad)
-    ∷ number (pad_fault c.bytes footprint pad)
-    ∷ when kinds.Angle (not (has_angle c.bytes pad))
-    ∷ when kinds.BadSize (pad_is_bad c.bytes pad)
-    ∷ when kinds.UnknownLayer (has_unknown c.bytes c.copper (list_of c.bytes (codes "layers") pad))
-    ∷ when kinds.UnknownNet (is_unknown_net c (net_of c.bytes pad))
-    ∷ when kinds.TooMany many
-    ∷ []
-
-abbrev faults_of : List ℕ → Item → Item → List (Option NumFault)
-faults_of bytes footprint pad =
-    point_fault bytes (list_of bytes (codes "at") pad)
-    ∷ place_fault bytes footprint pad
-    ∷ point_fault bytes (list_of bytes (codes "size") pad)
-    ∷ drill_fault bytes pad
-    ∷ whole_fault_at bytes 0 (list_of bytes (codes "net") pad)
-    ∷ ratio_fault_at bytes 0 (list_of bytes (codes "roundrect_rratio") pad)
-    ∷ length_fault_at bytes 0 (list_of bytes (codes "clearance") pad)
-    ∷ whole_fault_at bytes 0 (list_of bytes (codes "zone_connect") pad)
-    ∷ length_fault_at bytes 0 (list_of bytes (codes "thermal_gap") pad)
-    ∷ length_fault_at bytes 0 (bridge_list bytes pad)
-    ∷ []
-
-AllNone : {X : Type 0} → List (Option X) → Type 0
-AllNone [] = Unit
-AllNone (o ∷ os) = (o ≡ None) × AllNone os
-
-no_kinds : (ks : List (Option OffenceKind)) → first_kind ks ≡ None → AllNone ks
-unfolding AllNone
-no_kinds [] e = tt
-no_kinds (k ∷ ks) e = let b = kind_none k (first_kind ks) e in (b.0, no_kinds ks b.1)
-
-no_faults : (fs : List (Option NumFault)) → first_of fs ≡ None → AllNone fs
-unfolding AllNone
-no_faults [] e = tt
-no_faults (f ∷ fs) e = let b = fault_none f (first_of fs) e in (b.0, no_faults fs b.1)
+fault_at : (n : ℕ) (fs : List (Option NumFault)) → first_of fs ≡ None → get_or fs n None ≡ None
+fault_at n [] e = refl
+fault_at zero (f ∷ fs) e = (fault_none f (first_of fs) e).0
+fault_at (suc n) (f ∷ fs) e = fault_at n fs (fault_none f (first_of fs) e).1
 
 not_bad : (c : Context) (footprint pad : Item) (many : Bool) → pad_kind c footprint pad many ≡ None → pad_is_bad c.bytes pad ≡ false
-unfolding pad_kind AllNone
-not_bad c footprint pad many h = let a = no_kinds (kinds_of c footprint pad many) h in when_none kinds.BadSize (pad_is_bad c.bytes pad) a.1.1.1.1.1.1.0
+unfolding pad_kind
+not_bad c footprint pad many h = when_none kinds.BadSize (pad_is_bad c.bytes pad) (none_at 6 (pad_kinds c footprint pad many) h)
 
 no_fault : (c : Context) (footprint pad : Item) (many : Bool) → pad_kind c footprint pad many ≡ None → pad_fault c.bytes footprint pad ≡ None
-unfolding pad_kind AllNone
-no_fault c footprint pad many h = let a = no_kinds (kinds_of c footprint pad many) h in number_none (pad_fault c.bytes footprint pad) a.1.1.1.1.0
+unfolding pad_kind
+no_fault c footprint pad many h = number_none (pad_fault c.bytes footprint pad) (none_at 4 (pad_kinds c footprint pad many) h)
 
 not_far : (bytes : List ℕ) (footprint pad : Item) → pad_fault bytes footprint pad ≡ None → (is_far (pad_place bytes footprint pad).x || is_far (pad_place bytes footprint pad).y) ≡ false
-unfolding pad_fault AllNone
+unfolding pad_fault
 not_far bytes footprint pad h =
-    let a = no_faults (faults_of bytes footprint pad) h in
-    cond_none (is_far (pad_place bytes footprint pad).x || is_far (pad_place bytes footprint pad).y) OutOfRange a.1.0
+    cond_none (is_far (pad_place bytes footprint pad).x || is_far (pad_place bytes footprint pad).y) OutOfRange
+    (fault_at 1 (pad_faults bytes footprint pad) h)
 
 small_size : (bytes : List ℕ) (pad : Item) → IsSmall (swapped (turns_in bytes pad) (drilled_size bytes pad)) → IsSmall (size_on_board bytes pad)
 unfolding size_on_board

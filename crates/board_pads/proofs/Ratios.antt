@@ -7,8 +7,8 @@ use Rattle.grid_num.specs.Spelling.{number, number_after}
 use Rattle.grid_num.specs.Length.{with_sign}
 use Rattle.grid_num.specs.Parts.{whole_of, fraction_of}
 use Rattle.grid_num.proofs.Capped.{capped_alike, number_append}
-use Rattle.board_language.specs.Numbers.{is_decimal, is_negative, ratio_of, ratio_fault, ten_places, or_zero}
-use Rattle.board_language.specs.Items.{size_of}
+use Rattle.board_text.specs.Numbers.{is_decimal, is_negative, ratio_of, ratio_fault, ten_places, or_zero}
+use Rattle.board_text.specs.Items.{size_of}
 use Rattle.board_language.specs.Offences.{is_bad_ratio}
 use Rattle.board_pads.specs.Ratios.{kept_ratio}
 

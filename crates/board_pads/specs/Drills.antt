@@ -2,11 +2,10 @@
 use Rattle.std.specs.Prelude.{ℕ, not, List, [], ◌∷◌, filter, Option, None, Some, ℤ, pos}
 use Rattle.grid_num.specs.declared.read.NumFault.{NumFault}
 use Rattle.sexpr_text.specs.Items.{Item}
-use Rattle.board_fields.specs.Lists.{is_list}
-use Rattle.board_fields.specs.Values.{behind_head}
-use Rattle.text_items.specs.Parts.{Part}
-use Rattle.board_language.specs.Fields.{text_of}
-use Rattle.board_language.specs.Numbers.{item_fault, length_fault}
+use Rattle.board_text.specs.Lists.{is_list, behind_head}
+use Rattle.sexpr_text.specs.Parts.{Part}
+use Rattle.board_text.specs.Fields.{text_of}
+use Rattle.board_text.specs.Numbers.{item_fault, length_fault}
 use Rattle.board_language.specs.Pads.{length_from}
 
 -- the words and strings of a list

@@ -1,14 +1,14 @@
 // Angles, as quarter turns to the left on the screen.
 ghost use Rattle.std.specs.Prelude.{◌≡◌, ℕ, ◌≤◌, ◌<◌, ℤ, neg_ℤ, ◌≤ℤ◌, pos, not, is_none, codes, Some, IfOk};
 ghost use Rattle.grid_num.specs.Length.{IsInRange};
-ghost use Rattle.board_language.specs.Fields.{list_of};
-ghost use Rattle.board_language.specs.Numbers.{quarter_turns, turned};
+ghost use Rattle.board_text.specs.Fields.{list_of};
+ghost use Rattle.board_text.specs.Numbers.{quarter_turns, turned};
 ghost use Rattle.board_language.specs.Offences.{has_angle};
 ghost use Rattle.board_language.specs.Pads.{turned_by, turns_at, turns_in, turns_of};
 
-use crate::decimal::{are_zeros, follow, fraction_of, is_decimal, is_negative, whole_of};
-use board_parts::Part;
-use grid_num::{Memory, Point};
+use crate::decimal::{are_zeros, follow, is_decimal, is_negative};
+use board_text::Part;
+use grid_num::{Memory, Point, fraction_of, whole_of};
 use std::alloc::Global;
 
 /// A number of quarter turns to the left, or to the right, as one of the four to the left.
@@ -24,7 +24,7 @@ fn turned(negative: bool, quarters: u64) -> u64
 }
 
 /// How many quarter turns a text spells; none where it spells no multiple of 90 degrees from -360 to 360.
-#[tactic(auto, unfolding(board_language::specs::Numbers::quarter_turns))]
+#[tactic(auto, unfolding(board_text::specs::Numbers::quarter_turns))]
 fn quarter_turns(text: &[u8]) -> Option<u64>
     ensures { result ≡ quarter_turns text.now }
 {

@@ -1,15 +1,15 @@
 // The width of a pad's bridges: of its two lists for it the first counts.
 ghost use Rattle.std.specs.Prelude.{◌≡◌, ◌&&◌, ◌||◌, option_map, codes, IfOk};
 ghost use Rattle.grid_num.specs.Length.{IsInRange};
-ghost use Rattle.board_fields.specs.Lists.{is_list};
-ghost use Rattle.text_items.specs.Parts.{part_of};
+ghost use Rattle.board_text.specs.Lists.{is_list};
+ghost use Rattle.sexpr_text.specs.Parts.{part_of};
 ghost use Rattle.sexpr_text.specs.Items.{is_headed};
-ghost use Rattle.board_language.specs.Numbers.{is_short, length_at, length_fault_at};
-ghost use Rattle.board_language.specs.Items.{is_bad_length};
+ghost use Rattle.board_text.specs.Numbers.{is_short, length_at, length_fault_at};
+ghost use Rattle.board_text.specs.Items.{is_bad_length};
 ghost use Rattle.board_language.specs.Pads.{bridge_list};
 
 use board_items::is_no_length;
-use board_parts::Part;
+use board_text::Part;
 use grid_num::{Memory, NumFault};
 use std::alloc::Global;
 

@@ -1,19 +1,18 @@
 // The drill of a pad: the first two items of its list that are no lists, where a first word `oval` is passed over.
 ghost use Rattle.std.specs.Prelude.{◌≡◌, ℕ, ℤ, ◌+◌, ◌≤◌, ◌∷◌, [], cond, filter, map, not, codes, slice_get, Some, IfOk};
 ghost use Rattle.grid_num.specs.Length.{IsInRange};
-ghost use Rattle.board_fields.specs.Lists.{is_list};
-ghost use Rattle.board_fields.specs.Values.{behind_head};
-ghost use Rattle.text_items.specs.Parts.{part_of};
-ghost use Rattle.board_language.specs.Fields.{is_text, list_of};
-ghost use Rattle.board_language.specs.Numbers.{first_of, item_fault, length_fault};
+ghost use Rattle.board_text.specs.Lists.{is_list, behind_head};
+ghost use Rattle.sexpr_text.specs.Parts.{part_of};
+ghost use Rattle.board_text.specs.Fields.{is_text, list_of};
+ghost use Rattle.board_text.specs.Numbers.{first_of, item_fault, length_fault};
 ghost use Rattle.board_language.specs.Pads.{drill_fault, drill_height, drill_of, drill_width, is_hole, length_from};
-ghost use Rattle.board_language.specs.Items.{is_no_length};
+ghost use Rattle.board_text.specs.Items.{is_no_length};
 ghost use Rattle.board_language.specs.Offences.{has_bad_drill};
 ghost use Rattle.board_pads.specs.Drills.{fault_shown, first_text, leaves_of, leaves_in, length_shown, shown_or};
 
 use crate::read::is_hole;
 use board_items::is_no_length;
-use board_parts::{Part, first_of, is_text, length_of};
+use board_text::{Part, first_of, is_text, length_of};
 use grid_num::{Memory, NumFault};
 use std::alloc::Global;
 

@@ -1,14 +1,16 @@
 // What offends in a footprint: what it says for its pads.
 ghost use Rattle.std.specs.Prelude.{◌≡◌, ◌∷◌, [], ◌&&◌, ◌||◌, not, nat_lt, codes, IfOk};
 ghost use Rattle.board_language.specs.Pads.{footprint_fault, has_read_pad};
-ghost use Rattle.board_language.specs.Offences.{footprint_kind, footprint_lacks, has_angle, has_bad_length, has_short, is_bad_connect};
+ghost use Rattle.board_language.specs.Offences.{footprint_kind, footprint_lacks, has_angle, is_bad_connect};
+ghost use Rattle.board_text.specs.Items.{has_bad_length};
+ghost use Rattle.board_text.specs.Numbers.{has_short};
 ghost use Rattle.board_items.specs.Known.{context};
 
 use crate::angle::has_angle;
 use crate::read::has_read_pad;
-use board_items::{Known, first_kind, has_bad_length, has_short, number_kind, when};
-use board_language::OffenceKind;
-use board_parts::{Part, first_of};
+use board_items::{Known, has_bad_length, has_short};
+use board_language::{OffenceKind, first_kind, number_kind, when};
+use board_text::{Part, first_of};
 use grid_num::{Memory, NumFault};
 use std::alloc::Global;
 

@@ -1,14 +1,14 @@
 // The type and the shape of a pad.
 ghost use Rattle.std.specs.Prelude.{◌≡◌, ◌∷◌, [], ◌||◌, ◌&&◌, not, map, option_map, codes, IfOk, Some};
 ghost use Rattle.std.specs.List.{list_any};
-ghost use Rattle.board_language.specs.Fields.{is_text, passes, list_of, list_in, text_at, texts_of};
-ghost use Rattle.board_language.specs.Numbers.{is_decimal, is_zero};
+ghost use Rattle.board_text.specs.Fields.{is_text, passes, list_of, list_in, text_at, texts_of};
+ghost use Rattle.board_text.specs.Numbers.{is_decimal, is_zero};
 ghost use Rattle.board_language.specs.Pads.{is_shape, is_type, kind_of};
 ghost use Rattle.board_language.specs.Offences.{is_chamfered, is_off_hole, is_zero_text, pad_shapes, pad_types};
 
 use crate::decimal::{is_decimal, is_zero};
 use board_language::PadKind;
-use board_parts::{Part, is_text};
+use board_text::{Part, is_text};
 use grid_num::Memory;
 use std::alloc::Global;
 

@@ -2,14 +2,14 @@
 ghost use Rattle.std.specs.Prelude.{◌≡◌, ℤ, option_map, unwrap_or, codes, Some, IfOk};
 ghost use Rattle.std.specs.Option.{option_or};
 ghost use Rattle.grid_num.specs.Length.{IsInRange};
-ghost use Rattle.board_language.specs.Fields.{list_of};
-ghost use Rattle.board_language.specs.Numbers.{length_at, value_at, whole_number};
+ghost use Rattle.board_text.specs.Fields.{list_of};
+ghost use Rattle.board_text.specs.Numbers.{length_at, value_at, whole_number};
 ghost use Rattle.board_language.specs.Pads.{bridge_list, join_by_number, own_join, own_length, some_length};
 
 use crate::bridge::bridge_width;
 use board_items::size_of;
 use board_language::Join;
-use board_parts::Part;
+use board_text::Part;
 use grid_num::Memory;
 use std::alloc::Global;
 

@@ -1,12 +1,12 @@
 // What offends in a pad.
 ghost use Rattle.std.specs.Prelude.{◌≡◌, ◌∷◌, [], ◌||◌, not, codes, is_none, IfOk};
 ghost use Rattle.std.specs.List.{list_any};
-ghost use Rattle.board_language.specs.Fields.{list_of};
-ghost use Rattle.board_language.specs.Numbers.{is_short, length_at};
-ghost use Rattle.board_language.specs.Items.{is_bad_length, is_no_size};
-ghost use Rattle.board_language.specs.Layers.{has_unknown};
+ghost use Rattle.board_text.specs.Fields.{list_of, lacks};
+ghost use Rattle.board_text.specs.Numbers.{is_short, length_at, has_short};
+ghost use Rattle.board_text.specs.Items.{is_bad_length, is_no_size, has_bad_length};
+ghost use Rattle.board_text.specs.Layers.{has_unknown};
 ghost use Rattle.board_language.specs.Pads.{bridge_list, is_shape, pad_fault, ratio_in};
-ghost use Rattle.board_language.specs.Offences.{has_bad_drill, has_bad_length, has_short, is_bad_connect, is_bad_ratio, is_chamfered, lacks, pad_is_bad, pad_kind, pad_lacks, pad_shapes};
+ghost use Rattle.board_language.specs.Offences.{has_bad_drill, is_bad_connect, is_bad_ratio, is_chamfered, pad_is_bad, pad_kind, pad_lacks, pad_shapes};
 ghost use Rattle.board_items.specs.Known.{context};
 
 use crate::angle::has_angle;
@@ -18,11 +18,10 @@ use crate::place::place_fault;
 use crate::ratio::{ratio_fault_in, ratio_in};
 use crate::size::size_at;
 use board_items::{
-    Known, first_kind, has_bad_length, has_short, has_unknown, is_no_size, is_unknown_net, lacks,
-    number_kind, when,
+    Known, has_bad_length, has_short, has_unknown, is_no_size, is_unknown_net, lacks,
 };
-use board_language::OffenceKind;
-use board_parts::{Part, first_of};
+use board_language::{OffenceKind, first_kind, number_kind, when};
+use board_text::{Part, first_of};
 use grid_num::{Memory, NumFault};
 use std::alloc::Global;
 

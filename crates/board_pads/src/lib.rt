@@ -17,8 +17,6 @@ mod ratio;
 mod read;
 mod shape;
 mod size;
-#[cfg(test)]
-mod tests;
 
 pub use footprint::footprint_kind;
 pub use kind::pad_kind;

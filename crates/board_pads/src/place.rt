@@ -6,7 +6,7 @@ ghost use Rattle.plane.specs.Narrow.{IsNearZero};
 ghost use Rattle.board_language.specs.Pads.{is_far, pad_place, place_fault, turned_by};
 
 use crate::angle::{turned_by, turns_in};
-use board_parts::Part;
+use board_text::Part;
 use grid_num::{Memory, NumFault, Point};
 use std::alloc::Global;
 

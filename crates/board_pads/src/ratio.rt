@@ -3,21 +3,21 @@ ghost use Rattle.std.specs.Prelude.{◌≡◌, ℕ, ◌≤◌, ◌++◌, min, �
 ghost use Rattle.grid_num.specs.Spelling.{number};
 ghost use Rattle.grid_num.specs.Length.{with_sign};
 ghost use Rattle.grid_num.specs.Parts.{fraction_of, whole_of};
-ghost use Rattle.board_language.specs.Fields.{list_of};
-ghost use Rattle.board_language.specs.Numbers.{item_fault, ratio_fault, ratio_fault_at, ratio_of, ten_places, value_at};
+ghost use Rattle.board_text.specs.Fields.{list_of};
+ghost use Rattle.board_text.specs.Numbers.{item_fault, ratio_fault, ratio_fault_at, ratio_of, ten_places, value_at};
 ghost use Rattle.board_language.specs.Pads.{ratio_in};
 ghost use Rattle.board_pads.specs.Ratios.{kept_ratio};
 
-use crate::decimal::{follow, fraction_of, is_decimal, is_negative, place, whole_of};
-use board_parts::Part;
-use grid_num::{Memory, NumFault};
+use crate::decimal::{follow, is_decimal, is_negative};
+use board_text::Part;
+use grid_num::{Memory, NumFault, fraction_of, place, whole_of};
 use std::alloc::Global;
 
 /// The ratio of a pad that gives none.
 const A_QUARTER: u64 = 2_500_000_000;
 
 /// What is wrong with a text from which a ratio is wanted.
-#[tactic(auto, unfolding(board_language::specs::Numbers::ratio_fault))]
+#[tactic(auto, unfolding(board_text::specs::Numbers::ratio_fault))]
 pub fn ratio_fault(text: &[u8]) -> Option<NumFault>
     ensures { result ≡ ratio_fault text.now }
 {

@@ -2,13 +2,13 @@
 ghost use Rattle.std.specs.Prelude.{◌≡◌, ◌&&◌, codes, IfOk};
 ghost use Rattle.std.specs.List.{list_any};
 ghost use Rattle.sexpr_text.specs.Items.{is_headed};
-ghost use Rattle.board_language.specs.Fields.{list_of};
-ghost use Rattle.board_language.specs.Layers.{has_copper};
+ghost use Rattle.board_text.specs.Fields.{list_of};
+ghost use Rattle.board_text.specs.Layers.{has_copper};
 ghost use Rattle.board_language.specs.Pads.{has_read_pad, is_hole, is_read_pad};
 ghost use Rattle.board_items.specs.Known.{context};
 
 use board_items::{Known, has_copper};
-use board_parts::Part;
+use board_text::Part;
 use grid_num::Memory;
 use std::alloc::Global;
 

@@ -5,10 +5,10 @@ ghost use Rattle.cores.specs.Room.{IsInRoom};
 ghost use Rattle.touching.specs.Core.{InCore};
 ghost use Rattle.hulls.specs.Laws.{IsPad};
 ghost use Rattle.grid_num.specs.Length.{IsInRange};
-ghost use Rattle.board_language.specs.Items.{size_of};
+ghost use Rattle.board_text.specs.Items.{size_of};
 ghost use Rattle.board_language.specs.Pads.{box_round, circle, corner_radius, double, oval, ratio_in, rectangle, rounded_by, shape_of};
 
-use board_parts::{Part, is_text};
+use board_text::{Part, is_text};
 use copper_shape::Shape;
 use grid_num::{Memory, Point};
 use std::alloc::Global;

@@ -1,16 +1,16 @@
 // The size of a pad, in nanometres.
 ghost use Rattle.std.specs.Prelude.{◌≡◌, ◌≤◌, max, codes, Some, IfOk};
 ghost use Rattle.grid_num.specs.Length.{IsInRange};
-ghost use Rattle.board_language.specs.Fields.{list_of};
-ghost use Rattle.board_language.specs.Numbers.{length_at};
-ghost use Rattle.board_language.specs.Items.{size_of};
+ghost use Rattle.board_text.specs.Fields.{list_of};
+ghost use Rattle.board_text.specs.Numbers.{length_at};
+ghost use Rattle.board_text.specs.Items.{size_of};
 ghost use Rattle.board_language.specs.Pads.{drilled_size, size_on_board, swapped, written_size};
 
 use crate::angle::turns_in;
 use crate::drill::{drill_height, drill_width};
 use crate::read::is_hole;
 use board_items::size_of;
-use board_parts::Part;
+use board_text::Part;
 use grid_num::Memory;
 use std::alloc::Global;
 

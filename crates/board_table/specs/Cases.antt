@@ -11,5 +11,5 @@ abbrev pub IsTitleAt : List ℕ → ℕ → Type 0
 IsTitleAt text at = IsLineStart text at × (take 3 (drop at text) ≡ codes "== ")
 
 -- a case as it stands in the file
-abbrev pub text_of : Case → List ℕ
-text_of case = case.title.now ++ case.board.now
+abbrev pub case_text : Case → List ℕ
+case_text case = case.title.now ++ case.board.now

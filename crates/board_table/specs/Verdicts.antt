@@ -5,7 +5,7 @@ use Rattle.sexpr_text.specs.Trees.{IsRoot}
 use Rattle.sexpr_text.specs.Faults.{IsFault}
 use Rattle.board_language.specs.Reading.{IsAccepted, IsOffence}
 use Rattle.board_language.specs.declared.board.Rules.{Rules}
-use Rattle.board_model.specs.Whole.{whole_of}
+use Rattle.board_model.specs.Whole.{whole_board}
 use Rattle.board_table.specs.declared.verdict.Verdict.{Verdict}
 use Rattle.board_table.specs.declared.verdict.Verdict.TheVariants.{NoText, Refused, Read}
 
@@ -17,4 +17,4 @@ rules = record { floor = 200000; edge = 500000 }
 abbrev pub IsVerdict : List ℕ → Verdict → Type 0
 IsVerdict text (NoText fault) = IsFault text fault.at fault.kind
 IsVerdict text (Refused offence) = (root : Item) × IsRoot text root × IsOffence text root offence.at offence.line offence.kind
-IsVerdict text (Read board) = (root : Item) × IsRoot text root × IsAccepted text root × (board ≡ whole_of text root rules)
+IsVerdict text (Read board) = (root : Item) × IsRoot text root × IsAccepted text root × (board ≡ whole_board text root rules)

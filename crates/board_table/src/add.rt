@@ -1,6 +1,6 @@
 // Pieces of lines.
 ghost use Rattle.std.specs.Prelude.{◌≡◌, ◌++◌, OnOk};
-ghost use Rattle.board_table.specs.Lines.{point_text, set_text};
+ghost use Rattle.board_table.specs.Lines.{place_text, set_text};
 
 use grid_num::{Memory, Point};
 use std::alloc::Global;
@@ -15,7 +15,7 @@ pub fn add(out: &mut Vec<u8>, bytes: &[u8]) -> Result<(), Memory>
 
 /// Adds a place, x first.
 pub fn add_point(alloc: Global, out: &mut Vec<u8>, at: Point) -> Result<(), Memory>
-    ensures { OnOk result (out.new.items ≡ out.old.items ++ point_text at) }
+    ensures { OnOk result (out.new.items ≡ out.old.items ++ place_text at) }
 {
     let x = at.x;
     let y = at.y;

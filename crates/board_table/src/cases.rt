@@ -7,7 +7,7 @@
 //     ..
 ghost use Rattle.std.specs.Prelude.{◌≡◌, ◌+◌, ◌-◌, ◌<◌, ◌≤◌, ◌↔◌, ℕ, length, IsTrue, IfOk, slice_index};
 ghost use Rattle.std.specs.List.{flat_map};
-ghost use Rattle.board_table.specs.Cases.{IsTitleAt, text_of};
+ghost use Rattle.board_table.specs.Cases.{IsTitleAt, case_text};
 
 use grid_num::Memory;
 use std::alloc::Global;
@@ -63,7 +63,7 @@ fn line_end(text: &[u8], from: usize) -> usize
 
 /// The cases of a file, in its order. Refuses for want of memory alone.
 pub fn cases(alloc: Global, text: &[u8]) -> Result<Vec<Case<'_>>, Memory>
-    ensures joined { IfOk result (λ v. flat_map text_of v.items ≡ text.now) }
+    ensures joined { IfOk result (λ v. flat_map case_text v.items ≡ text.now) }
 {
     let mut found = Vec::new(alloc);
     let mut at = 0;

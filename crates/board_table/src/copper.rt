@@ -2,7 +2,7 @@
 use crate::add::{add, add_point, add_set};
 use board_language::{Pad, Track, Via};
 use copper_shape::Shape;
-use cores::{Area, Kind, Line};
+use cores::{AreaBounds, Kind, Line};
 use grid_num::Memory;
 use std::alloc::Global;
 
@@ -50,8 +50,8 @@ pub fn add_via(alloc: Global, out: &mut Vec<u8>, via: &Via) -> Result<(), Memory
 }
 
 /// Adds the bounds of x, y, x + y and x - y.
-fn add_area(alloc: Global, out: &mut Vec<u8>, area: &Area) -> Result<(), Memory> {
-    let Area {
+fn add_area(alloc: Global, out: &mut Vec<u8>, area: &AreaBounds) -> Result<(), Memory> {
+    let AreaBounds {
         x0,
         x1,
         y0,

@@ -11,14 +11,13 @@ mod saying;
 mod table;
 mod verdict;
 
-use desk::{Desk, Failed, RealDesk};
+use desk::{Desk, Failed, ReadStop, RealDesk, read_all};
 use grid_num::Memory;
 use saying::say_all;
 use std::alloc::Global;
 use std::process::ExitCode;
 use std::rt::Files;
 use table::table;
-use whole_files::{ReadStop, read_all};
 
 /// The file of the boards, in the folder that the program runs in.
 const BOARDS: &str = "boards.txt";

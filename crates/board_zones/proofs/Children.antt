@@ -1,8 +1,8 @@
 -- Walking over the child lists of an item by their places.
 use Rattle.std.proofs.Common.{◌≡◌, ℕ, suc, ◌+◌, ◌<◌, ◌≤◌, Bool, true, false, List, [], ◌∷◌, ◌++◌, length, map, filter, find, drop, get_or, refl, sym, ap, ◌∙◌, arith, append_assoc, append-nil, Option, Some, None, option_map}
 use Rattle.sexpr_text.specs.Items.{Item}
-use Rattle.text_items.specs.Parts.{Part, part_of}
-use Rattle.board_parts.proofs.Walks.{drop_here, drop_past}
+use Rattle.sexpr_text.specs.Parts.{Part, part_of}
+use Rattle.board_text.proofs.Walks.{drop_here, drop_past}
 
 filter_yes : {V : Type 0} (q : V → Bool) (x : V) (xs : List V) → q x ≡ true → filter q (x ∷ xs) ≡ x ∷ filter q xs
 filter_yes q x xs e = rw e refl

@@ -3,11 +3,11 @@ use Rattle.std.proofs.Common.{◌≡◌, ℕ, Bool, List, map, refl, sym, ap, �
 use Rattle.std.specs.List.{list_any}
 use Rattle.std.proofs.lemmas.Simd.{map-map}
 use Rattle.sexpr_text.specs.Items.{Item}
-use Rattle.text_items.specs.Parts.{Part, part_of}
-use Rattle.board_parts.proofs.Walks.{any_of_map}
-use Rattle.board_language.specs.Numbers.{first_of, point_fault}
-use Rattle.board_language.specs.Items.{point_at}
-use Rattle.board_language.specs.Zones.{corner_lists, corners_of, corners_fault}
+use Rattle.sexpr_text.specs.Parts.{Part, part_of}
+use Rattle.board_text.proofs.Walks.{any_of_map}
+use Rattle.board_text.specs.Numbers.{first_of, point_fault}
+use Rattle.board_text.specs.Items.{point_at}
+use Rattle.board_language.specs.Zones.{corner_lists, corners_read, corners_fault}
 
 through : {W : Type 0} (f : Part → W) (bytes : List ℕ) (xs : List Item) (ps qs : List Part) → ps ≡ qs → qs ≡ map (part_of bytes) xs → map f ps ≡ map (λ x. f (part_of bytes x)) xs
 through f bytes xs ps qs e g = ap (map f) (e ∙ g) ∙ map-map f (part_of bytes) xs
@@ -21,6 +21,6 @@ unfolding corners_fault
 fault_through bytes zone ps qs e g = ap first_of (through (λ p. point_fault p.bytes (Some p.item)) bytes (corner_lists bytes zone) ps qs e g)
 
 pub corners_through : (bytes : List ℕ) (zone : Item) (ps qs : List Part) → ps ≡ qs → qs ≡ map (part_of bytes) (corner_lists bytes zone)
-    → map (λ p. point_at p.bytes (Some p.item)) ps ≡ corners_of bytes zone
-unfolding corners_of
+    → map (λ p. point_at p.bytes (Some p.item)) ps ≡ corners_read bytes zone
+unfolding corners_read
 corners_through bytes zone ps qs e g = through (λ p. point_at p.bytes (Some p.item)) bytes (corner_lists bytes zone) ps qs e g

@@ -3,7 +3,7 @@ use Rattle.std.proofs.Common.{◌≡◌, ℕ, ◌+◌, ◌<◌, List, length, ma
 use Rattle.std.specs.Prelude.{unwrap_or}
 use Rattle.board_language.specs.declared.Join.{Join}
 use Rattle.board_language.specs.Zones.{first_join, join_by_word}
-use Rattle.board_parts.proofs.Walks.{drop_here}
+use Rattle.board_text.proofs.Walks.{drop_here}
 
 split : {V : Type 0} (f : V → List ℕ) (xs : List V) (k : ℕ) (x : V) → k < length xs → ((d : V) → x ≡ get_or xs k d)
     → first_join (map f (drop k xs)) ≡ unwrap_or (join_by_word (f x)) (first_join (map f (drop (k + 1) xs)))

@@ -1,5 +1,4 @@
 pub mod Children
 pub mod Corners
-pub mod Solid
 pub mod Joins
 pub mod Sound

@@ -1,16 +1,16 @@
 // The numbers of a zone that can't be read, or that lack or are out of their range.
 ghost use Rattle.std.specs.Prelude.{◌≡◌, ◌||◌, ◌∷◌, [], codes, IfOk};
 ghost use Rattle.std.specs.List.{list_any};
-ghost use Rattle.board_language.specs.Numbers.{first_of, is_short};
-ghost use Rattle.board_language.specs.Items.{is_no_length};
+ghost use Rattle.board_text.specs.Numbers.{first_of, is_short, has_short};
+ghost use Rattle.board_text.specs.Items.{is_no_length};
 ghost use Rattle.board_language.specs.Zones.{zone_fault, clearance_list, gap_list, bridge_list, mode_list};
-ghost use Rattle.board_language.specs.Offences.{has_short, zone_lacks, zone_is_bad};
+ghost use Rattle.board_language.specs.Offences.{zone_lacks, zone_is_bad};
 
 use crate::inside::{is_bare_inside, length_fault_inside, whole_fault_inside};
 use crate::outline::{corners_fault, outline_lacks};
 use crate::settings::{bridge_in, clearance_in, gap_in, thickness_in};
 use board_items::{has_short, is_no_length};
-use board_parts::{Part, first_of};
+use board_text::{Part, first_of};
 use grid_num::{Memory, NumFault};
 use std::alloc::Global;
 

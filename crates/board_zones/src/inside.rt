@@ -1,11 +1,11 @@
 // What stands in the first list with one head inside the first list with another, as the `clearance` in a `connect_pads`.
 ghost use Rattle.std.specs.Prelude.{◌≡◌, Some, IfOk};
 ghost use Rattle.grid_num.specs.Length.{IsInRange};
-ghost use Rattle.board_language.specs.Fields.{list_in, says_at, passes};
-ghost use Rattle.board_language.specs.Numbers.{length_fault_at, whole_fault_at, is_short};
+ghost use Rattle.board_text.specs.Fields.{list_in, says_at, passes};
+ghost use Rattle.board_text.specs.Numbers.{length_fault_at, whole_fault_at, is_short};
 ghost use Rattle.board_language.specs.Zones.{length_or};
 
-use board_parts::{Part, length_of};
+use board_text::{Part, length_of};
 use grid_num::{Memory, NumFault};
 use std::alloc::Global;
 

@@ -11,9 +11,9 @@ use crate::outline::{
 };
 use crate::read::has_unknown_layer;
 use crate::settings::thickness_in;
-use board_items::{Known, first_kind, is_unknown_net, number_kind, size_of, when};
-use board_language::OffenceKind;
-use board_parts::{Part, whole_fault, whole_number};
+use board_items::{Known, is_unknown_net, size_of};
+use board_language::{OffenceKind, first_kind, number_kind, when};
+use board_text::{Part, whole_fault, whole_number};
 use grid_num::Memory;
 use outline_slab::OutlineFault;
 use std::alloc::Global;

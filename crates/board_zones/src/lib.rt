@@ -11,8 +11,6 @@ mod outline;
 mod read;
 mod settings;
 mod spans;
-#[cfg(test)]
-mod tests;
 mod zone;
 
 pub use kind::{area_kind, zone_kind};

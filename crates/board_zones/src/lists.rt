@@ -1,11 +1,11 @@
 // The lists of a zone that are found by their heads.
 ghost use Rattle.std.specs.Prelude.{◌≡◌, ◌||◌, length, map, codes, option_map, IfOk};
 ghost use Rattle.sexpr_text.specs.Items.{is_headed};
-ghost use Rattle.board_fields.specs.Lists.{headed};
-ghost use Rattle.text_items.specs.Parts.{part_of};
+ghost use Rattle.board_text.specs.Lists.{headed};
+ghost use Rattle.sexpr_text.specs.Parts.{part_of};
 ghost use Rattle.board_language.specs.Zones.{layer_list, corner_lists};
 
-use board_parts::Part;
+use board_text::Part;
 use grid_num::Memory;
 use std::alloc::Global;
 

@@ -2,13 +2,13 @@
 ghost use Rattle.std.specs.Prelude.{◌≡◌, ◌||◌, is_none, Some, IfOk};
 ghost use Rattle.std.specs.List.{All, list_any};
 ghost use Rattle.outline_slab.specs.Rules.{IsInSpan, IsOutline};
-ghost use Rattle.board_language.specs.Numbers.{is_short};
-ghost use Rattle.board_language.specs.Zones.{corner_lists, corners_of, corners_fault, outline_of};
+ghost use Rattle.board_text.specs.Numbers.{is_short};
+ghost use Rattle.board_language.specs.Zones.{corner_lists, corners_read, corners_fault, outline_of};
 ghost use Rattle.board_language.specs.Offences.{has_two_outlines, has_arc, outline_lacks, is_long_outline, IsOutlineResult};
 
 use crate::lists::{corner_lists, count_headed};
 use board_items::{has_other_point, has_short_point, points_fault, points_of};
-use board_parts::Part;
+use board_text::Part;
 use grid_num::{Memory, NumFault, Point};
 use outline_slab::laws::no_fault;
 use outline_slab::{Outline, OutlineError, OutlineFault};
@@ -78,9 +78,9 @@ pub fn corners_fault(alloc: Global, zone: &Part<'_>) -> Result<Option<NumFault>,
 }
 
 /// The corners in nanometres.
-#[tactic(auto, unfolding(board_language::specs::Zones::corners_of))]
+#[tactic(auto, unfolding(board_language::specs::Zones::corners_read))]
 fn corners_of(alloc: Global, zone: &Part<'_>) -> Result<Vec<Point>, Memory>
-    ensures value { IfOk result (λ v. v.items ≡ corners_of zone.now.bytes zone.now.item) }
+    ensures value { IfOk result (λ v. v.items ≡ corners_read zone.now.bytes zone.now.item) }
     ensures range { IfOk result (λ v. All IsInSpan v.items) }
 {
     let lists = corner_lists(alloc, zone)?;
@@ -93,7 +93,7 @@ fn corners_of(alloc: Global, zone: &Part<'_>) -> Result<Vec<Point>, Memory>
 ///
 /// Want of memory.
 pub fn outline_of(alloc: Global, zone: &Part<'_>) -> Result<Outline, Memory>
-    requires { IsOutline (corners_of zone.now.bytes zone.now.item) }
+    requires { IsOutline (corners_read zone.now.bytes zone.now.item) }
     ensures { IfOk result (λ o. o ≡ outline_of zone.now.bytes zone.now.item) }
 {
     no_fault();
@@ -111,7 +111,7 @@ pub fn outline_of(alloc: Global, zone: &Part<'_>) -> Result<Outline, Memory>
 ///
 /// Want of memory.
 pub fn outline_result(alloc: Global, zone: &Part<'_>) -> Result<Option<OutlineFault>, Memory>
-    ensures { IfOk result (IsOutlineResult (corners_of zone.now.bytes zone.now.item)) }
+    ensures { IfOk result (IsOutlineResult (corners_read zone.now.bytes zone.now.item)) }
 {
     let corners = corners_of(alloc, zone)?;
     match Outline::make(alloc, &corners) {

@@ -1,13 +1,13 @@
 // Which zones and rule areas are read, and their layers.
 ghost use Rattle.std.specs.Prelude.{◌≡◌, ◌≤◌, length, IfOk};
-ghost use Rattle.board_language.specs.Layers.{has_unknown, layer_set};
+ghost use Rattle.board_text.specs.Layers.{has_unknown, layer_set};
 ghost use Rattle.board_language.specs.Zones.{is_read_area, is_read_zone, keeps_copper_out, layer_list};
 ghost use Rattle.board_items.specs.Known.{context};
 
 use crate::inside::says_inside;
 use crate::lists::layer_list;
 use board_items::{Known, has_copper, has_unknown, layer_set, no_layers_law};
-use board_parts::Part;
+use board_text::Part;
 use grid_num::Memory;
 use std::alloc::Global;
 

@@ -1,12 +1,12 @@
 // What a zone says of its fill, with what stands for it where it says nothing.
 ghost use Rattle.std.specs.Prelude.{◌≡◌, map, codes, IfOk};
 ghost use Rattle.grid_num.specs.Length.{IsInRange};
-ghost use Rattle.board_language.specs.Fields.{list_of};
+ghost use Rattle.board_text.specs.Fields.{list_of};
 ghost use Rattle.board_language.specs.Zones.{clearance_in, thickness_in, gap_in, bridge_in, mode_in, join_by_word, first_join, join_in};
 
 use crate::inside::{length_first, length_inside};
 use board_language::Join;
-use board_parts::Part;
+use board_text::Part;
 use grid_num::Memory;
 use std::alloc::Global;
 

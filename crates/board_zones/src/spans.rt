@@ -1,43 +1,15 @@
 // Where the lists of a zone stand that are replaced, and where its rings go.
-ghost use Rattle.std.specs.Prelude.{◌≡◌, filter, map, slice_index, IfOk};
-ghost use Rattle.sexpr_text.specs.Grammar.{is_space};
-ghost use Rattle.board_fields.specs.Lists.{lists_of};
-ghost use Rattle.board_language.specs.Items.{solid_end, span_of, tail_of};
-ghost use Rattle.board_language.specs.Fields.{list_of, list_in};
+ghost use Rattle.std.specs.Prelude.{◌≡◌, filter, map, IfOk};
+ghost use Rattle.board_text.specs.Lists.{lists_of};
+ghost use Rattle.board_text.specs.Items.{span_of, tail_of};
+ghost use Rattle.board_text.specs.Fields.{list_of, list_in};
 ghost use Rattle.board_language.specs.Zones.{is_fill, span_or_none, spans_of};
 
 use board_language::{FillSpans, ZoneSpans};
-use board_parts::Part;
+use board_text::{Part, solid_end};
 use grid_num::Memory;
 use sexpr_text::Span;
 use std::alloc::Global;
-
-fn is_space(byte: u8) -> bool
-    ensures { result ≡ is_space byte }
-{
-    byte == b' ' || byte == b'\t' || byte == b'\r' || byte == b'\n'
-}
-
-/// Whether white space stands at a place.
-fn is_space_at(bytes: &[u8], place: usize) -> bool
-    ensures { result ≡ is_space (slice_index bytes.now place) }
-{
-    match bytes.get(place) {
-        Some(byte) => is_space(*byte),
-        None => false,
-    }
-}
-
-/// Of the first bytes, how many are left without the white space at their end.
-fn solid_end(bytes: &[u8], end: usize) -> usize
-    ensures { result ≡ solid_end bytes.now end }
-{
-    let mut solid = end;
-    'back: while solid > 0 && is_space_at(bytes, solid - 1) {
-        solid -= 1;
-    }
-    solid
-}
 
 /// The place behind the last byte before a list's closing parenthesis that isn't white space.
 pub fn tail_of(list: &Part<'_>) -> usize

@@ -1,9 +1,9 @@
 // What is read of zones and rule areas.
 ghost use Rattle.std.specs.Prelude.{◌≡◌, ◌≤◌, length, IfOk};
-ghost use Rattle.board_language.specs.Items.{line_of};
+ghost use Rattle.board_text.specs.Items.{line_of};
 ghost use Rattle.board_language.specs.Zones.{area_of, zone_of};
 ghost use Rattle.board_items.specs.Known.{context};
-ghost use Rattle.board_zones.specs.Kinds.{IsSoundArea, IsSoundZone};
+ghost use Rattle.board_zones.specs.Kinds.{IsAreaWithoutOffence, IsZoneWithoutOffence};
 
 use crate::outline::outline_of;
 use crate::read::layers_of;
@@ -11,7 +11,7 @@ use crate::settings::{bridge_in, clearance_in, gap_in, join_in, mode_in, thickne
 use crate::spans::spans_of;
 use board_items::{Known, size_of};
 use board_language::{Area, Zone};
-use board_parts::Part;
+use board_text::Part;
 use grid_num::Memory;
 use std::alloc::Global;
 
@@ -24,7 +24,7 @@ use std::alloc::Global;
 pub fn zone_of(alloc: Global, known: &Known, zone: &Part<'_>, line: u64) -> Result<Zone, Memory>
     requires few { length known.now.copper ≤ 32 }
     requires line { line ≡ line_of zone.now.bytes zone.now.item.from }
-    requires sound { IsSoundZone (context zone.now.bytes known.now) zone.now.item }
+    requires sound { IsZoneWithoutOffence (context zone.now.bytes known.now) zone.now.item }
     ensures { IfOk result (λ z. z ≡ zone_of (context zone.now.bytes known.now) zone.now.item) }
 {
     let clearance = clearance_in(alloc, zone)?;
@@ -57,7 +57,7 @@ pub fn zone_of(alloc: Global, known: &Known, zone: &Part<'_>, line: u64) -> Resu
 #[tactic(auto, unfolding(board_language::specs::Zones::area_of))]
 pub fn area_of(alloc: Global, known: &Known, zone: &Part<'_>) -> Result<Area, Memory>
     requires few { length known.now.copper ≤ 32 }
-    requires sound { IsSoundArea (context zone.now.bytes known.now) zone.now.item }
+    requires sound { IsAreaWithoutOffence (context zone.now.bytes known.now) zone.now.item }
     ensures { IfOk result (λ a. a ≡ area_of (context zone.now.bytes known.now) zone.now.item) }
 {
     Ok(Area {

@@ -3,10 +3,10 @@ use Rattle.std.proofs.Common.{◌≡◌, ◌⊎◌, ℕ, zero, suc, ◌+◌, ◌
 use Rattle.std.proofs.lemmas.Option.{slice_get-get_or, slice_get_past}
 use Rattle.std.proofs.lemmas.List.{append-nil, take-append-drop, take-take, take_all}
 use Rattle.sexpr_text.specs.Grammar.{Forest, Spelt, is_space}
-use Rattle.sexpr_text.specs.Spot.{Spot, step, spot, closed}
-use Rattle.sexpr_text.specs.Spot.Spot.{Before, Inside, Quoted, Behind, Lost}
+use Rattle.sexpr_text.specs.Spot.{TextSpot, step, text_spot, closed}
+use Rattle.sexpr_text.specs.Spot.TextSpot.{Before, Inside, Quoted, Behind, Lost}
 use Rattle.sexpr_text.specs.Faults.{IsFront, IsUtf8Front, IsPlace, IsFault, first_row}
-use Rattle.sexpr_text.specs.Seen.{refused}
+use Rattle.sexpr_text.specs.Seen.{fault_at_spot}
 use Rattle.sexpr_text.specs.declared.error.TextKind.{TextKind}
 use Rattle.sexpr_text.specs.declared.error.TextKind.TheVariants.{StrayClose, NotList, After, TooDeep, BadUtf8}
 use Rattle.sexpr_text.proofs.Spots.{next}
@@ -32,13 +32,13 @@ one_place bytes a b p q =
     ]
 
 -- the kind, by the spot
-pub kind_there : (bytes : List ℕ) (at : ℕ) (k : TextKind) → IsFault bytes at k → first_row (where_of (spot bytes at)) (slice_get bytes at) ≡ Some k
+pub kind_there : (bytes : List ℕ) (at : ℕ) (k : TextKind) → IsFault bytes at k → first_row (where_of (text_spot bytes at)) (slice_get bytes at) ≡ Some k
 kind_there bytes at k f = ap (λ w. first_row w (slice_get bytes at)) (where_front bytes at f.place.front) ∙ f.of_kind
 
 pub same_fault : (bytes : List ℕ) (a b : ℕ) (k l : TextKind) → IsFault bytes a k → IsFault bytes b l → (a ≡ b) × (k ≡ l)
 same_fault bytes a b k l f g =
     let e : a ≡ b = one_place bytes a b f.place g.place in
-    let d : Some k ≡ Some l = sym (kind_there bytes a k f) ∙ ap (λ n. first_row (where_of (spot bytes n)) (slice_get bytes n)) e ∙ kind_there bytes b l g in
+    let d : Some k ≡ Some l = sym (kind_there bytes a k f) ∙ ap (λ n. first_row (where_of (text_spot bytes n)) (slice_get bytes n)) e ∙ kind_there bytes b l g in
     (e, cc)
 
 -- a text that is spelt has no fault
@@ -53,7 +53,7 @@ spelt_front bytes tree n h s =
 
 -- a place before the end, by the byte there: its spot is lost behind it, or it can't go on the UTF-8
 pub place_byte : (bytes : List ℕ) (at : ℕ) → at < length bytes → IsFront bytes at
-    → (step (spot bytes at) (slice_index bytes at) ≡ Lost) ⊎ (IsUtf8Front (take (at + 1) bytes) → ⊥) → IsPlace bytes at
+    → (step (text_spot bytes at) (slice_index bytes at) ≡ Lost) ⊎ (IsUtf8Front (take (at + 1) bytes) → ⊥) → IsPlace bytes at
 place_byte bytes at h f c =
     let no : IsFront bytes (at + 1) → ⊥ = λ g. elim c [
       | inl lost ↦ front_alive bytes (at + 1) g (next bytes at (at + 1) refl ∙ lost)
@@ -61,11 +61,11 @@ place_byte bytes at h f c =
     ] in
     record { front = f; longest = no; none = λ tree s. no (spelt_front bytes tree (at + 1) (omega arith) s) }
 
-abbrev Alive : Spot → Type 0
+abbrev Alive : TextSpot → Type 0
 Alive Lost = ⊥
 Alive other = Unit {0}
 
-alive_cond : (b : Bool) (s t : Spot) → Alive s → Alive t → Alive (cond b s t)
+alive_cond : (b : Bool) (s t : TextSpot) → Alive s → Alive t → Alive (cond b s t)
 alive_cond true s t h i = h
 alive_cond false s t h i = i
 
@@ -74,7 +74,7 @@ alive_item room c = alive_cond (c == 41) (closed room) (cond (c == 34) (Quoted r
     (alive_cond (room == 63) Behind (Inside (room + 1)) tt tt) (alive_cond (c == 34) (Quoted room false) (Inside room) tt tt)
 
 -- where the byte may stand, it isn't lost
-may_stand : (s : Spot) (c : ℕ) → (s ≡ Lost → ⊥) → refused s c ≡ BadUtf8 → step s c ≡ Lost → ⊥
+may_stand : (s : TextSpot) (c : ℕ) → (s ≡ Lost → ⊥) → fault_at_spot s c ≡ BadUtf8 → step s c ≡ Lost → ⊥
 may_stand Before c a k l = on (c == 41) refl (is_space c) refl (c == 40) refl
   where
     on : (p : Bool) → (c == 41) ≡ p → (q : Bool) → is_space c ≡ q → (r : Bool) → (c == 40) ≡ r → ⊥
@@ -108,10 +108,10 @@ bad_utf8 bytes at f u =
     elim (below_or_past at (length bytes)) [
       | inl less ↦
           let e : slice_get bytes at ≡ Some (slice_index bytes at) = slice_get-get_or bytes at 0 less in
-          let k : Some (refused (spot bytes at) (slice_index bytes at)) ≡ Some BadUtf8 =
-          sym (row_refused (spot bytes at) (slice_index bytes at) (front_alive bytes at f.place.front)) ∙ ap (first_row (where_of (spot bytes at))) (sym e) ∙ kind_there bytes at BadUtf8 f in
-          let d : refused (spot bytes at) (slice_index bytes at) ≡ BadUtf8 = cc in
+          let k : Some (fault_at_spot (text_spot bytes at) (slice_index bytes at)) ≡ Some BadUtf8 =
+          sym (row_refused (text_spot bytes at) (slice_index bytes at) (front_alive bytes at f.place.front)) ∙ ap (first_row (where_of (text_spot bytes at))) (sym e) ∙ kind_there bytes at BadUtf8 f in
+          let d : fault_at_spot (text_spot bytes at) (slice_index bytes at) ≡ BadUtf8 = cc in
           f.place.longest (front_made bytes (at + 1) (omega arith) u
-          (λ q. may_stand (spot bytes at) (slice_index bytes at) (front_alive bytes at f.place.front) d (sym (next bytes at (at + 1) refl) ∙ q)))
-      | inr past ↦ ends_utf8 (spot bytes at) (ap (first_row (where_of (spot bytes at))) (sym (slice_get_past bytes at past)) ∙ kind_there bytes at BadUtf8 f)
+          (λ q. may_stand (text_spot bytes at) (slice_index bytes at) (front_alive bytes at f.place.front) d (sym (next bytes at (at + 1) refl) ∙ q)))
+      | inr past ↦ ends_utf8 (text_spot bytes at) (ap (first_row (where_of (text_spot bytes at))) (sym (slice_get_past bytes at past)) ∙ kind_there bytes at BadUtf8 f)
     ]

@@ -2,43 +2,43 @@
 use Rattle.std.proofs.Common.{◌≡◌, ℕ, zero, suc, ◌+◌, ◌-◌, ◌≤◌, Bool, true, false, ◌==◌, cond, List, [], ◌∷◌, ◌++◌, length, slice_index, take, drop, refl, sym, ◌∙◌, ap, arith, append_assoc, length-append}
 use Rattle.std.proofs.lemmas.List.{get_or_append_left, get_or-append_right, append-nil, take-append-drop, length-take-le}
 use Rattle.sexpr_text.specs.Grammar.{is_space}
-use Rattle.sexpr_text.specs.Spot.{Spot, step, spot, opened, closed}
-use Rattle.sexpr_text.specs.Spot.Spot.{Before, Inside, Quoted, Behind, Lost}
+use Rattle.sexpr_text.specs.Spot.{TextSpot, step, text_spot, opened, closed}
+use Rattle.sexpr_text.specs.Spot.TextSpot.{Before, Inside, Quoted, Behind, Lost}
 use Rattle.sexpr_text.proofs.Spots.{next}
 
 -- the spot depends on the bytes before it alone
-pub spot_local : (bs cs : List ℕ) (n : ℕ) → n ≤ length bs → spot (bs ++ cs) n ≡ spot bs n
+pub spot_local : (bs cs : List ℕ) (n : ℕ) → n ≤ length bs → text_spot (bs ++ cs) n ≡ text_spot bs n
 spot_local bs cs zero h = refl
 spot_local bs cs (suc n) h =
     let e : slice_index (bs ++ cs) n ≡ slice_index bs n = get_or_append_left bs cs 0 n (omega arith) in
-    ap (λ s. step s (slice_index (bs ++ cs) n)) (spot_local bs cs n (omega arith)) ∙ ap (step (spot bs n)) e
+    ap (λ s. step s (slice_index (bs ++ cs) n)) (spot_local bs cs n (omega arith)) ∙ ap (step (text_spot bs n)) e
 
-pub spot_take : (bytes : List ℕ) (n : ℕ) → n ≤ length bytes → spot (take n bytes) n ≡ spot bytes n
+pub spot_take : (bytes : List ℕ) (n : ℕ) → n ≤ length bytes → text_spot (take n bytes) n ≡ text_spot bytes n
 spot_take bytes n h =
     let l : length (take n bytes) ≡ n = length-take-le n bytes h in
-    sym (spot_local (take n bytes) (drop n bytes) n (omega arith)) ∙ ap (λ b. spot b n) (take-append-drop n bytes)
+    sym (spot_local (take n bytes) (drop n bytes) n (omega arith)) ∙ ap (λ b. text_spot b n) (take-append-drop n bytes)
 
-unfoldable pub run : Spot → List ℕ → Spot
+unfoldable pub run : TextSpot → List ℕ → TextSpot
 run s [] = s
 run s (c ∷ cs) = run (step s c) cs
 
-pub spot_run : (cs bs : List ℕ) → spot (bs ++ cs) (length (bs ++ cs)) ≡ run (spot bs (length bs)) cs
+pub spot_run : (cs bs : List ℕ) → text_spot (bs ++ cs) (length (bs ++ cs)) ≡ run (text_spot bs (length bs)) cs
 unfolding run
 spot_run [] bs = let e : bs ++ [] ≡ bs = append-nil bs in rw e refl
 spot_run (c ∷ cs) bs =
     let e : bs ++ c ∷ cs ≡ (bs ++ c ∷ []) ++ cs = sym (append_assoc bs (c ∷ []) cs) in
     let l : length (bs ++ c ∷ []) ≡ length bs + 1 = length-append bs (c ∷ []) in
     let i : slice_index (bs ++ c ∷ []) (length bs) ≡ c = get_or-append_right bs (c ∷ []) (length bs) (length bs) 0 refl (omega arith) ∙ (let z : length bs - length bs ≡ 0 = omega arith in rw z refl) in
-    let s : spot (bs ++ c ∷ []) (length (bs ++ c ∷ [])) ≡ step (spot bs (length bs)) c =
-    next (bs ++ c ∷ []) (length bs) (length (bs ++ c ∷ [])) l ∙ ap (λ s. step s (slice_index (bs ++ c ∷ []) (length bs))) (spot_local bs (c ∷ []) (length bs) (omega arith)) ∙ ap (step (spot bs (length bs))) i in
-    ap (λ b. spot b (length b)) e ∙ spot_run cs (bs ++ c ∷ []) ∙ ap (λ s. run s cs) s
+    let s : text_spot (bs ++ c ∷ []) (length (bs ++ c ∷ [])) ≡ step (text_spot bs (length bs)) c =
+    next (bs ++ c ∷ []) (length bs) (length (bs ++ c ∷ [])) l ∙ ap (λ s. step s (slice_index (bs ++ c ∷ []) (length bs))) (spot_local bs (c ∷ []) (length bs) (omega arith)) ∙ ap (step (text_spot bs (length bs))) i in
+    ap (λ b. text_spot b (length b)) e ∙ spot_run cs (bs ++ c ∷ []) ∙ ap (λ s. run s cs) s
 
 -- the lists that are open are closed
 abbrev pub closers : ℕ → List ℕ
 closers zero = 41 ∷ []
 closers (suc outer) = 41 ∷ closers outer
 
-abbrev pub finish : Spot → List ℕ
+abbrev pub finish : TextSpot → List ℕ
 finish Before = 40 ∷ 41 ∷ []
 finish (Inside room) = closers (63 - room)
 finish (Quoted room true) = 34 ∷ 34 ∷ closers (63 - room)
@@ -46,12 +46,12 @@ finish (Quoted room false) = 34 ∷ closers (63 - room)
 finish Behind = []
 finish Lost = []
 
-abbrev pub Low : Spot → Type 0
+abbrev pub Low : TextSpot → Type 0
 Low (Inside room) = room ≤ 63
 Low (Quoted room escaped) = room ≤ 63
 Low other = Unit {0}
 
-low_cond : (b : Bool) (s t : Spot) → Low s → Low t → Low (cond b s t)
+low_cond : (b : Bool) (s t : TextSpot) → Low s → Low t → Low (cond b s t)
 low_cond true s t h i = h
 low_cond false s t h i = i
 
@@ -66,7 +66,7 @@ low_closed room h = on (room == 63) refl
     on true q = rw q tt
     on false q = let f : room ≡ 63 → ⊥ = λ e. (let g : (room == 63) ≡ true = rw e refl in let x : false ≡ true = sym q ∙ g in cc) in let l : room + 1 ≤ 63 = grind (arith, f) in rw q l
 
-pub low_step : (s : Spot) (c : ℕ) → Low s → Low (step s c)
+pub low_step : (s : TextSpot) (c : ℕ) → Low s → Low (step s c)
 low_step Before c h = low_cond (is_space c) Before (cond (c == 40) (Inside 63) Lost) tt (low_cond (c == 40) (Inside 63) Lost (omega arith) tt)
 low_step (Inside room) c h = low_cond (c == 40) (opened room) (cond (c == 41) (closed room) (cond (c == 34) (Quoted room false) (Inside room))) (low_opened room h)
     (low_cond (c == 41) (closed room) (cond (c == 34) (Quoted room false) (Inside room)) (low_closed room h) (low_cond (c == 34) (Quoted room false) (Inside room) h h))
@@ -75,16 +75,16 @@ low_step (Quoted room false) c h = low_cond (c == 34) (Inside room) (Quoted room
 low_step Behind c h = low_cond (is_space c) Behind Lost tt tt
 low_step Lost c h = tt
 
-pub low : (bytes : List ℕ) (n : ℕ) → Low (spot bytes n)
+pub low : (bytes : List ℕ) (n : ℕ) → Low (text_spot bytes n)
 low bytes zero = tt
-low bytes (suc n) = low_step (spot bytes n) (slice_index bytes n) (low bytes n)
+low bytes (suc n) = low_step (text_spot bytes n) (slice_index bytes n) (low bytes n)
 
 pub closers_run : (outer room : ℕ) → room + outer ≡ 63 → run (Inside room) (closers outer) ≡ Behind
 unfolding run
 closers_run zero room h = let e : (room == 63) ≡ true = grind (arith, h) in rw e refl
 closers_run (suc outer) room h = let e : (room == 63) ≡ false = grind (arith, h) in ap (λ b. run (cond b Behind (Inside (room + 1))) (closers outer)) e ∙ closers_run outer (room + 1) (omega arith)
 
-pub finish_run : (s : Spot) → Low s → (s ≡ Lost → ⊥) → run s (finish s) ≡ Behind
+pub finish_run : (s : TextSpot) → Low s → (s ≡ Lost → ⊥) → run s (finish s) ≡ Behind
 unfolding run
 finish_run Before l h = refl
 finish_run (Inside room) l h = closers_run (63 - room) room (omega arith)
@@ -97,14 +97,14 @@ abbrev pub Highs : List ℕ → Type 0
 Highs [] = Unit {0}
 Highs (c ∷ cs) = (128 ≤ c) × Highs cs
 
-abbrev pub high : Spot → Spot
+abbrev pub high : TextSpot → TextSpot
 high Before = Lost
 high (Inside room) = Inside room
 high (Quoted room escaped) = Quoted room false
 high Behind = Lost
 high Lost = Lost
 
-pub high_step : (s : Spot) (c : ℕ) → 128 ≤ c → step s c ≡ high s
+pub high_step : (s : TextSpot) (c : ℕ) → 128 ≤ c → step s c ≡ high s
 high_step s c h = on s
   where
     a : (c == 40) ≡ false
@@ -122,7 +122,7 @@ high_step s c h = on s
     f : is_space c ≡ false
     f = grind (arith, h)
 
-    on : (s : Spot) → step s c ≡ high s
+    on : (s : TextSpot) → step s c ≡ high s
     on Before = rw (f, a) refl
     on (Inside room) = rw (a, b, d) refl
     on (Quoted room true) = refl
@@ -131,12 +131,12 @@ high_step s c h = on s
     on Lost = refl
 
 -- spots that bytes of other characters leave alive
-abbrev pub Open : Spot → Type 0
+abbrev pub Open : TextSpot → Type 0
 Open (Inside room) = Unit {0}
 Open (Quoted room escaped) = Unit {0}
 Open other = ⊥
 
-pub highs_run : (cs : List ℕ) (s : Spot) → Highs cs → Open s → Low s → (run s cs ≡ Lost → ⊥) × Low (run s cs)
+pub highs_run : (cs : List ℕ) (s : TextSpot) → Highs cs → Open s → Low s → (run s cs ≡ Lost → ⊥) × Low (run s cs)
 unfolding run
 highs_run [] (Inside room) h o l = (λ e. cc, l)
 highs_run [] (Quoted room escaped) h o l = (λ e. cc, l)

@@ -7,6 +7,7 @@ pub mod Taken
 pub mod Whole
 pub mod Stored
 pub mod Nodes
+pub mod ItemAt
 pub mod Walking
 pub mod Told
 pub mod Spots

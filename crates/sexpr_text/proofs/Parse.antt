@@ -7,8 +7,8 @@ use Rattle.sexpr_text.proofs.Unique.{word_solid}
 use Rattle.std.specs.Str.{IsUtf8}
 use Rattle.sexpr_text.proofs.Local.{items_order}
 use Rattle.sexpr_text.proofs.Strings.{is_escaped-next}
-use Rattle.sexpr_text.specs.Spot.{Spot, step, spot, opened, closed}
-use Rattle.sexpr_text.specs.Spot.Spot.{Before, Inside, Quoted, Behind, Lost}
+use Rattle.sexpr_text.specs.Spot.{TextSpot, step, text_spot, opened, closed}
+use Rattle.sexpr_text.specs.Spot.TextSpot.{Before, Inside, Quoted, Behind, Lost}
 use Rattle.sexpr_text.proofs.Spots.{next, lost_on}
 use Rattle.sexpr_text.proofs.Numbers.{compared}
 
@@ -44,17 +44,17 @@ pub record Closes (bytes : List ℕ) (inside m : ℕ) : Type 0 where
   pub first : (j : ℕ) → m ≤ j → j < last → slice_index bytes (inside + j) ≡ 34 → is_escaped bytes inside j ≡ true
 
 abbrev pub Done : List ℕ → Type 0
-Done bytes = spot bytes (length bytes) ≡ Behind
+Done bytes = text_spot bytes (length bytes) ≡ Behind
 
 abbrev pub InsideOk : List ℕ → ℕ → Type 0
-InsideOk bytes n = (k outer room : ℕ) → k + n ≡ length bytes → room + outer ≡ 63 → spot bytes k ≡ Inside room → Rest bytes outer room k
+InsideOk bytes n = (k outer room : ℕ) → k + n ≡ length bytes → room + outer ≡ 63 → text_spot bytes k ≡ Inside room → Rest bytes outer room k
 
 abbrev pub QuotedOk : List ℕ → ℕ → Type 0
 QuotedOk bytes n = (k inside m outer room : ℕ) → k ≡ inside + m → k + n ≡ length bytes → room + outer ≡ 63
-    → spot bytes k ≡ Quoted room (is_escaped bytes inside m) → (c : Closes bytes inside m) × Rest bytes outer room (inside + c.last + 1)
+    → text_spot bytes k ≡ Quoted room (is_escaped bytes inside m) → (c : Closes bytes inside m) × Rest bytes outer room (inside + c.last + 1)
 
 abbrev pub BehindOk : List ℕ → ℕ → Type 0
-BehindOk bytes n = (k : ℕ) → k + n ≡ length bytes → spot bytes k ≡ Behind → IsWhite bytes k (length bytes)
+BehindOk bytes n = (k : ℕ) → k + n ≡ length bytes → text_spot bytes k ≡ Behind → IsWhite bytes k (length bytes)
 
 pub white_one : (bytes : List ℕ) (k : ℕ) → k < length bytes → is_space (slice_index bytes k) ≡ true → IsWhite bytes k (k + 1)
 white_one bytes k h s = record {
@@ -64,12 +64,12 @@ white_one bytes k h s = record {
 }
 
 -- where a byte leads
-pub after : (bytes : List ℕ) (k : ℕ) (s t : Spot) → spot bytes k ≡ s → step s (slice_index bytes k) ≡ t → spot bytes (k + 1) ≡ t
+pub after : (bytes : List ℕ) (k : ℕ) (s t : TextSpot) → text_spot bytes k ≡ s → step s (slice_index bytes k) ≡ t → text_spot bytes (k + 1) ≡ t
 after bytes k s t e f = next bytes k (k + 1) refl ∙ ap (λ x. step x (slice_index bytes k)) e ∙ f
 
-pub not_lost : (bytes : List ℕ) (k : ℕ) → k ≤ length bytes → Done bytes → spot bytes k ≡ Lost → ⊥
+pub not_lost : (bytes : List ℕ) (k : ℕ) → k ≤ length bytes → Done bytes → text_spot bytes k ≡ Lost → ⊥
 not_lost bytes k h d e =
-    let f : spot bytes (length bytes) ≡ Lost = lost_on bytes k (length bytes - k) (length bytes) (omega arith) e in
+    let f : text_spot bytes (length bytes) ≡ Lost = lost_on bytes k (length bytes - k) (length bytes) (omega arith) e in
     let g : Lost ≡ Behind = sym f ∙ d in absurd cc
 
 pub behind_step : (bytes : List ℕ) (n : ℕ) → Done bytes → BehindOk bytes n → BehindOk bytes (suc n)
@@ -86,7 +86,7 @@ quoted_step bytes n io qo k inside m outer room p e r s = on (is_escaped bytes i
     at = omega arith
 
     -- the byte is passed over
-    pass : (next : Bool) → is_escaped bytes inside (m + 1) ≡ next → spot bytes (k + 1) ≡ Quoted room next
+    pass : (next : Bool) → is_escaped bytes inside (m + 1) ≡ next → text_spot bytes (k + 1) ≡ Quoted room next
         → (slice_index bytes (inside + m) ≡ 34 → is_escaped bytes inside m ≡ true) → (c : Closes bytes inside m) × Rest bytes outer room (inside + c.last + 1)
     pass next f g h =
         let t : (c : Closes bytes inside (m + 1)) × Rest bytes outer room (inside + c.last + 1) =
@@ -233,7 +233,7 @@ add_string bytes outer room k h q c r = mapped bytes outer room (k + 1 + c.last 
 
 -- an opening parenthesis
 open_step : (bytes : List ℕ) (n k outer room : ℕ) → Done bytes → InsideOk bytes n → k + suc n ≡ length bytes → room + outer ≡ 63 → slice_index bytes k ≡ 40
-    → spot bytes (k + 1) ≡ opened room → Rest bytes outer room k
+    → text_spot bytes (k + 1) ≡ opened room → Rest bytes outer room k
 open_step bytes n k outer zero d io e r c s = absurd (not_lost bytes (k + 1) (omega arith) d s)
 open_step bytes n k outer (suc room) d io e r c s =
     let t : Rest bytes (suc outer) room (k + 1) = io (k + 1) (suc outer) room (omega arith) (omega arith) s in
@@ -242,7 +242,7 @@ open_step bytes n k outer (suc room) d io e r c s =
 
 -- a closing parenthesis
 close_step : (bytes : List ℕ) (n k outer room : ℕ) → InsideOk bytes n → BehindOk bytes n → k + suc n ≡ length bytes → room + outer ≡ 63 → slice_index bytes k ≡ 41
-    → spot bytes (k + 1) ≡ closed room → Rest bytes outer room k
+    → text_spot bytes (k + 1) ≡ closed room → Rest bytes outer room k
 close_step bytes n k zero room io bo e r c s =
     let f : (room == 63) ≡ true = grind (arith, r) in
     let w : IsWhite bytes (k + 1) (length bytes) = bo (k + 1) (omega arith) (s ∙ rw f refl) in
@@ -256,7 +256,7 @@ inside_step : (bytes : List ℕ) (n : ℕ) → Done bytes → InsideOk bytes n �
 inside_step bytes n d io qo bo k outer room e r s =
     on (slice_index bytes k == 40) refl (slice_index bytes k == 41) refl (slice_index bytes k == 34) refl (is_space (slice_index bytes k)) refl
   where
-    here : (t : Spot) → step (Inside room) (slice_index bytes k) ≡ t → spot bytes (k + 1) ≡ t
+    here : (t : TextSpot) → step (Inside room) (slice_index bytes k) ≡ t → text_spot bytes (k + 1) ≡ t
     here t f = after bytes k (Inside room) t s f
 
     on : (a : Bool) → (slice_index bytes k == 40) ≡ a → (b : Bool) → (slice_index bytes k == 41) ≡ b → (c : Bool) → (slice_index bytes k == 34) ≡ c
@@ -293,11 +293,11 @@ pub record Whole (bytes : List ℕ) (k : ℕ) : Type 0 where
   pub opening : slice_index bytes from ≡ 40
   pub rest : Rest bytes 0 63 (from + 1)
 
-whole : (bytes : List ℕ) → Done bytes → (n k : ℕ) → k + n ≡ length bytes → spot bytes k ≡ Before → Whole bytes k
+whole : (bytes : List ℕ) → Done bytes → (n k : ℕ) → k + n ≡ length bytes → text_spot bytes k ≡ Before → Whole bytes k
 whole bytes d zero k e s = let f : k ≡ length bytes = omega arith in let g : Before ≡ Behind = sym s ∙ rw f d in absurd cc
 whole bytes d (suc n) k e s = on (λ t. whole bytes d n (k + 1) (omega arith) t) (is_space (slice_index bytes k)) refl (slice_index bytes k == 40) refl
   where
-    on : (spot bytes (k + 1) ≡ Before → Whole bytes (k + 1)) → (a : Bool) → is_space (slice_index bytes k) ≡ a → (b : Bool) → (slice_index bytes k == 40) ≡ b → Whole bytes k
+    on : (text_spot bytes (k + 1) ≡ Before → Whole bytes (k + 1)) → (a : Bool) → is_space (slice_index bytes k) ≡ a → (b : Bool) → (slice_index bytes k == 40) ≡ b → Whole bytes k
     on ih true p b q =
         let t : Whole bytes (k + 1) = ih (after bytes k Before Before s (rw p refl)) in
         record { from = t.from; white = white_joined bytes k (k + 1) t.from (white_one bytes k (omega arith) p) t.white; within = t.within; opening = t.opening; rest = t.rest }

@@ -5,14 +5,14 @@ use Rattle.sexpr_text.specs.Grammar.{Forest, Items, Spelt, IsWhite, IsWord, IsSt
 use Rattle.sexpr_text.specs.Grammar.Forest.{Nil, Word, Text, Group}
 use Rattle.sexpr_text.specs.Faults.{IsFront, Where, is_inside, where_among, where_in}
 use Rattle.sexpr_text.specs.Faults.Where.{Before as TreeBefore, Inside as TreeInside, Quoted as TreeQuoted, Behind as TreeBehind}
-use Rattle.sexpr_text.specs.Spot.{Spot, step, spot}
-use Rattle.sexpr_text.specs.Spot.Spot.{Before, Inside, Quoted, Behind, Lost}
+use Rattle.sexpr_text.specs.Spot.{TextSpot, step, text_spot}
+use Rattle.sexpr_text.specs.Spot.TextSpot.{Before, Inside, Quoted, Behind, Lost}
 use Rattle.sexpr_text.proofs.Spots.{next, stays, space_before, space_behind, white_inside, word_over, word_inside, string_over, quoted_over, items_over, opened_some}
 use Rattle.sexpr_text.proofs.Finish.{spot_local, spot_take}
 use Rattle.sexpr_text.proofs.Numbers.{below_or_past}
 
 -- a spot with room for so many lists lies in the others of the 64
-abbrev pub where_of : Spot → Where
+abbrev pub where_of : TextSpot → Where
 where_of Before = TreeBefore
 where_of (Inside room) = TreeInside (64 - room)
 where_of (Quoted room escaped) = TreeQuoted
@@ -49,22 +49,22 @@ shorter : (bytes : List ℕ) (at n end : ℕ) → IsWhite bytes at end → at �
 shorter bytes at n end w h k = record { order = h; within = omega (arith, w.within); each = λ j low less. w.each j low (omega arith) }
 
 -- in the white space before an item, and in a word
-in_white : (bytes : List ℕ) (room at n end : ℕ) → IsWhite bytes at end → spot bytes at ≡ Inside room → at ≤ n → n ≤ end → where_of (spot bytes n) ≡ TreeInside (64 - room)
+in_white : (bytes : List ℕ) (room at n end : ℕ) → IsWhite bytes at end → text_spot bytes at ≡ Inside room → at ≤ n → n ≤ end → where_of (text_spot bytes n) ≡ TreeInside (64 - room)
 in_white bytes room at n end w s h k = ap where_of (white_inside bytes room at n (shorter bytes at n end w h k) s)
 
-in_word : (bytes : List ℕ) (room from n to : ℕ) → IsWord bytes from to → spot bytes from ≡ Inside room → from ≤ n → n ≤ to → where_of (spot bytes n) ≡ TreeInside (64 - room)
+in_word : (bytes : List ℕ) (room from n to : ℕ) → IsWord bytes from to → text_spot bytes from ≡ Inside room → from ≤ n → n ≤ to → where_of (text_spot bytes n) ≡ TreeInside (64 - room)
 in_word bytes room from n to w s h k = ap where_of (stays is_word (Inside room) (word_inside room) bytes from (n - from) n (omega arith) (λ j low less. w.each j low (omega arith)) s)
 
-in_string : (bytes : List ℕ) (room from n to : ℕ) → IsString bytes from to → spot bytes from ≡ Inside room → from < n → n < to → where_of (spot bytes n) ≡ TreeQuoted
+in_string : (bytes : List ℕ) (room from n to : ℕ) → IsString bytes from to → text_spot bytes from ≡ Inside room → from < n → n < to → where_of (text_spot bytes n) ≡ TreeQuoted
 in_string bytes room from n to w s h k =
-    let begun : spot bytes (from + 1) ≡ Quoted room false = next bytes from (from + 1) refl ∙ ap (λ t. step t (slice_index bytes from)) s ∙ ap (step (Inside room)) w.opening in
+    let begun : text_spot bytes (from + 1) ≡ Quoted room false = next bytes from (from + 1) refl ∙ ap (λ t. step t (slice_index bytes from)) s ∙ ap (step (Inside room)) w.opening in
     ap where_of (quoted_over bytes room from to w begun (n - (from + 1)) n (omega arith) k)
 
 -- behind a list's opening parenthesis, and behind its closing one
-in_list : (bytes : List ℕ) (room from to : ℕ) → IsBracket bytes room from to → spot bytes from ≡ Inside room → spot bytes (from + 1) ≡ Inside (room - 1)
+in_list : (bytes : List ℕ) (room from to : ℕ) → IsBracket bytes room from to → text_spot bytes from ≡ Inside room → text_spot bytes (from + 1) ≡ Inside (room - 1)
 in_list bytes room from to b s = next bytes from (from + 1) refl ∙ ap (λ t. step t (slice_index bytes from)) s ∙ ap (step (Inside room)) b.opening ∙ opened_some room b.deep
 
-after_list : (bytes : List ℕ) (room from to : ℕ) (inner : Forest) → room < 64 → IsBracket bytes room from to → Items bytes (room - 1) (from + 1) (to - 1) inner → spot bytes from ≡ Inside room → spot bytes to ≡ Inside room
+after_list : (bytes : List ℕ) (room from to : ℕ) (inner : Forest) → room < 64 → IsBracket bytes room from to → Items bytes (room - 1) (from + 1) (to - 1) inner → text_spot bytes from ≡ Inside room → text_spot bytes to ≡ Inside room
 after_list bytes room from to inner low b i s = items_over bytes room from to (Group from to inner Nil) low (white_here, b, i, white_there) s
   where
     white_here : IsWhite bytes from from
@@ -73,12 +73,12 @@ after_list bytes room from to inner low b i s = items_over bytes room from to (G
     white_there : IsWhite bytes to to
     white_there = record { order = omega arith; within = b.within; each = λ k p q. absurd (omega arith) }
 
-among : (bytes : List ℕ) (room at end n : ℕ) (f : Forest) → room < 64 → Items bytes room at end f → spot bytes at ≡ Inside room → at ≤ n → n ≤ end → where_of (spot bytes n) ≡ where_among (64 - room) n f
+among : (bytes : List ℕ) (room at end n : ℕ) (f : Forest) → room < 64 → Items bytes room at end f → text_spot bytes at ≡ Inside room → at ≤ n → n ≤ end → where_of (text_spot bytes n) ≡ where_among (64 - room) n f
 among bytes room at end n Nil low i s h k = in_white bytes room at n end i s h k
 among bytes room at end n (Word from to rest) low i s h k =
     elim (below_or_past n to) [
       | inl less ↦
-          let e : where_of (spot bytes n) ≡ TreeInside (64 - room) = elim (below_or_past n from) [
+          let e : where_of (text_spot bytes n) ≡ TreeInside (64 - room) = elim (below_or_past n from) [
             | inl before ↦ in_white bytes room at n from i.0 s h (omega arith)
             | inr past ↦ in_word bytes room from n to i.1 (white_inside bytes room at from i.0 s) past (omega arith)
           ] in
@@ -112,7 +112,7 @@ among bytes room at end n (Group from to inner rest) low i s h k =
     deeper d = omega arith
 
 -- the part of a tree's own text where a place lies is the spot there
-pub where_spelt : (bytes : List ℕ) (tree : Forest) (n : ℕ) → Spelt bytes tree → n ≤ length bytes → where_of (spot bytes n) ≡ where_in n tree
+pub where_spelt : (bytes : List ℕ) (tree : Forest) (n : ℕ) → Spelt bytes tree → n ≤ length bytes → where_of (text_spot bytes n) ≡ where_in n tree
 where_spelt bytes (Group from to inner Nil) n t h =
     elim (below_or_past from n) [
       | inr before ↦ ap where_of (stays is_space Before space_before bytes 0 n n (omega arith) (λ j low less. i.0.each j low (omega arith)) refl)
@@ -130,22 +130,22 @@ where_spelt bytes (Group from to inner Nil) n t h =
     i : Items bytes 64 0 (length bytes) (Group from to inner Nil)
     i = t.items
 
-    start_spot : spot bytes from ≡ Before
+    start_spot : text_spot bytes from ≡ Before
     start_spot = stays is_space Before space_before bytes 0 from from (omega arith) i.0.each refl
 
-    opened_spot : spot bytes (from + 1) ≡ Inside 63
+    opened_spot : text_spot bytes (from + 1) ≡ Inside 63
     opened_spot = next bytes from (from + 1) refl ∙ ap (λ t. step t (slice_index bytes from)) start_spot ∙ ap (step Before) i.1.opening
 
-    closed_spot : spot bytes to ≡ Behind
+    closed_spot : text_spot bytes to ≡ Behind
     closed_spot =
-        let e : spot bytes (to - 1) ≡ Inside 63 = items_over bytes 63 (from + 1) (to - 1) inner (omega arith) i.2 opened_spot in
+        let e : text_spot bytes (to - 1) ≡ Inside 63 = items_over bytes 63 (from + 1) (to - 1) inner (omega arith) i.2 opened_spot in
         next bytes (to - 1) to (omega (arith, i.1.order)) ∙ ap (λ t. step t (slice_index bytes (to - 1))) e ∙ ap (step (Inside 63)) i.1.closing
 where_spelt bytes tree n t h = absurd t.list
 
 -- so it is the same in every text that begins as this one
-pub where_front : (bytes : List ℕ) (n : ℕ) (f : IsFront bytes n) → where_of (spot bytes n) ≡ where_in n f.tree
+pub where_front : (bytes : List ℕ) (n : ℕ) (f : IsFront bytes n) → where_of (text_spot bytes n) ≡ where_in n f.tree
 where_front bytes n f =
     let l : length (take n bytes) ≡ n = length-take-le n bytes f.within in
     let m : length (take n bytes ++ f.more) ≡ length (take n bytes) + length f.more = length-append (take n bytes) f.more in
-    let e : spot (take n bytes ++ f.more) n ≡ spot bytes n = spot_local (take n bytes) f.more n (omega arith) ∙ spot_take bytes n f.within in
+    let e : text_spot (take n bytes ++ f.more) n ≡ text_spot bytes n = spot_local (take n bytes) f.more n (omega arith) ∙ spot_take bytes n f.within in
     ap where_of (sym e) ∙ where_spelt (take n bytes ++ f.more) f.tree n f.spelt (omega arith)

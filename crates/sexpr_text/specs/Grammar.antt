@@ -19,20 +19,20 @@ abbrev pub is_word : ℕ → Bool
 is_word c = not (is_space c || c == 40 || c == 41 || c == 34)
 
 -- each byte of these places passes
-abbrev pub Between : (ℕ → Bool) → List ℕ → ℕ → ℕ → Type 0
-Between p bytes from to = (k : ℕ) → from ≤ k → k < to → p (slice_index bytes k) ≡ true
+abbrev pub HoldsBetween : (ℕ → Bool) → List ℕ → ℕ → ℕ → Type 0
+HoldsBetween p bytes from to = (k : ℕ) → from ≤ k → k < to → p (slice_index bytes k) ≡ true
 
 -- white space from one place to another
 pub record IsWhite (bytes : List ℕ) (from to : ℕ) : Type 0 where
   pub order : from ≤ to
   pub within : to ≤ length bytes
-  pub each : Between is_space bytes from to
+  pub each : HoldsBetween is_space bytes from to
 
 -- a longest run of bytes of a word
 pub record IsWord (bytes : List ℕ) (from to : ℕ) : Type 0 where
   pub order : from < to
   pub within : to ≤ length bytes
-  pub each : Between is_word bytes from to
+  pub each : HoldsBetween is_word bytes from to
   pub longest : to < length bytes → is_word (slice_index bytes to) ≡ false
 
 -- A byte in a string is escaped where a backslash that isn't escaped stands directly before it.

@@ -2,6 +2,7 @@ pub mod Grammar
 pub mod Items
 pub mod Flat
 pub mod Trees
+pub mod Parts
 pub mod Faults
 pub mod Built
 pub mod Storage

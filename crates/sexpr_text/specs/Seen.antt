@@ -3,8 +3,8 @@ use Rattle.std.specs.Prelude.{ℕ, zero, suc, ◌≤◌, ◌==◌, ◌||◌, not
 use Rattle.sexpr_text.specs.Grammar.{is_space}
 use Rattle.sexpr_text.specs.Cut.{Cut}
 use Rattle.sexpr_text.specs.Cut.Cut.{Full, Next, Broken}
-use Rattle.sexpr_text.specs.Spot.{Spot}
-use Rattle.sexpr_text.specs.Spot.Spot.{Before, Inside, Quoted, Behind, Lost}
+use Rattle.sexpr_text.specs.Spot.{TextSpot}
+use Rattle.sexpr_text.specs.Spot.TextSpot.{Before, Inside, Quoted, Behind, Lost}
 use Rattle.sexpr_text.specs.declared.cut.Cutting.{Cutting}
 use Rattle.sexpr_text.specs.declared.cut.Cutting.TheVariants.{Whole, Wants, Bad}
 use Rattle.sexpr_text.specs.declared.stand.Stand.{Stand}
@@ -12,7 +12,7 @@ use Rattle.sexpr_text.specs.declared.stand.Stand.TheVariants.{Start, List, Text,
 use Rattle.sexpr_text.specs.declared.error.TextKind.{TextKind}
 use Rattle.sexpr_text.specs.declared.error.TextKind.TheVariants as kinds
 
-abbrev pub seen : Stand → Spot
+abbrev pub seen : Stand → TextSpot
 seen Start = Before
 seen (List room) = Inside room
 seen (Text room escaped) = Quoted room escaped
@@ -30,7 +30,7 @@ seen_cut (Wants low high left) = Next low high left
 seen_cut Bad = Broken
 
 -- the kind where the input ends, if it is no text
-abbrev pub ended : Spot → Option TextKind
+abbrev pub ended : TextSpot → Option TextKind
 ended Before = Some kinds.Empty
 ended (Quoted room escaped) = Some kinds.BadString
 ended (Inside room) = Some kinds.Unclosed
@@ -38,10 +38,10 @@ ended Behind = None
 ended Lost = None
 
 -- the kind where this byte can't stand
-abbrev pub refused : Spot → ℕ → TextKind
-refused Before c = cond (c == 41) kinds.StrayClose (cond (not (is_space c || c == 40 || c == 41)) kinds.NotList kinds.BadUtf8)
-refused (Quoted room escaped) c = kinds.BadUtf8
-refused (Inside zero) c = cond (c == 40) kinds.TooDeep kinds.BadUtf8
-refused (Inside (suc room)) c = kinds.BadUtf8
-refused Behind c = cond (not (is_space c)) kinds.After kinds.BadUtf8
-refused Lost c = kinds.BadUtf8
+abbrev pub fault_at_spot : TextSpot → ℕ → TextKind
+fault_at_spot Before c = cond (c == 41) kinds.StrayClose (cond (not (is_space c || c == 40 || c == 41)) kinds.NotList kinds.BadUtf8)
+fault_at_spot (Quoted room escaped) c = kinds.BadUtf8
+fault_at_spot (Inside zero) c = cond (c == 40) kinds.TooDeep kinds.BadUtf8
+fault_at_spot (Inside (suc room)) c = kinds.BadUtf8
+fault_at_spot Behind c = cond (not (is_space c)) kinds.After kinds.BadUtf8
+fault_at_spot Lost c = kinds.BadUtf8

@@ -4,6 +4,7 @@ ghost use Rattle.sexpr_text.specs.Grammar.{Forest, Spelt};
 ghost use Rattle.sexpr_text.specs.Items.{Item, children_of};
 ghost use Rattle.sexpr_text.specs.Flat.{Shown, IsNode};
 ghost use Rattle.sexpr_text.specs.Trees.{IsTreeAt, IsTreeOf, IsSpeltAt, AreInOrder};
+ghost use Rattle.sexpr_text.specs.Parts.{item_at};
 ghost use Rattle.sexpr_text.specs.Faults.{IsFault, IsUtf8Front};
 ghost use Rattle.sexpr_text.specs.declared.error.TextKind.{TextKind};
 ghost use Rattle.sexpr_text.specs.declared.NodeKind.TheVariants as kinds;
@@ -58,4 +59,10 @@ pub fn items_of_nodes()
 /// The children of a list lie inside it, in order.
 pub fn children_in_order()
     ensures { (bytes : List ℕ) (item : Item) → item.kind ≡ kinds.List → IsSpeltAt bytes item → AreInOrder (item.from + 1) (item.to - 1) (children_of item) }
+{}
+
+/// The item that is built from the nodes of a text is the one that the node is, and each node is one.
+pub fn item_law()
+    ensures same { (nodes : List Shown) (id : ℕ) (item : Item) → IsNode nodes id item → item_at nodes id ≡ item }
+    ensures each { (bytes : List ℕ) (nodes : List Shown) (id : ℕ) → IsTreeOf bytes nodes → id < length nodes → IsNode nodes id (item_at nodes id) }
 {}

@@ -11,17 +11,16 @@ mod reader;
 mod scan;
 mod stand;
 mod store;
-#[cfg(test)]
-mod tests;
 mod tree;
 mod walk;
 
 pub use error::{TextError, TextFault, TextKind};
 pub use laws::{
-    bad_utf8, children_in_order, each_node_is_an_item, items_of_nodes, node_is_below, one_fault,
-    one_item, one_root, one_tree, root_is_last,
+    bad_utf8, children_in_order, each_node_is_an_item, item_law, items_of_nodes, node_is_below,
+    one_fault, one_item, one_root, one_tree, root_is_last,
 };
 pub use reader::read;
+pub use scan::is_space_byte;
 pub use tree::Tree;
 
 /// The number of a node: its place in the flat list of a tree's nodes.

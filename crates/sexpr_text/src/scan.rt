@@ -3,6 +3,7 @@ ghost use Rattle.std.specs.Prelude.{◌≡◌, ◌≢◌, ℕ, ◌&&◌, not, �
 ghost use Rattle.sexpr_text.specs.Grammar.{is_space, is_word, IsWhite, IsWord, IsString};
 ghost use Rattle.sexpr_text.specs.Run.{Stops};
 
+/// Whether a byte is white space.
 pub fn is_space_byte(byte: u8) -> bool
     ensures { result ≡ is_space byte }
 {

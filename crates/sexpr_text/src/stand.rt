@@ -1,8 +1,8 @@
 // Where the walk to a fault stands in a text.
 ghost use Rattle.std.specs.Prelude.{◌≡◌, ◌≢◌, ◌≤◌, true, false};
 ghost use Rattle.sexpr_text.specs.Spot.{step, opened, closed};
-ghost use Rattle.sexpr_text.specs.Spot.Spot.{Before, Inside, Quoted, Behind, Lost};
-ghost use Rattle.sexpr_text.specs.Seen.{seen, is_room, refused, ended};
+ghost use Rattle.sexpr_text.specs.Spot.TextSpot.{Before, Inside, Quoted, Behind, Lost};
+ghost use Rattle.sexpr_text.specs.Seen.{seen, is_room, fault_at_spot, ended};
 
 use crate::TextKind;
 use crate::scan::is_space_byte;
@@ -127,7 +127,7 @@ pub fn is_off(stand: Stand) -> bool
 }
 
 fn kind_before(byte: u8) -> TextKind
-    ensures { result ≡ refused Before byte }
+    ensures { result ≡ fault_at_spot Before byte }
 {
     if byte == b')' {
         TextKind::StrayClose
@@ -139,7 +139,7 @@ fn kind_before(byte: u8) -> TextKind
 }
 
 fn kind_inside(room: u8, byte: u8) -> TextKind
-    ensures { result ≡ refused (Inside room) byte }
+    ensures { result ≡ fault_at_spot (Inside room) byte }
 {
     if room == 0 && byte == b'(' {
         TextKind::TooDeep
@@ -149,7 +149,7 @@ fn kind_inside(room: u8, byte: u8) -> TextKind
 }
 
 fn kind_behind(byte: u8) -> TextKind
-    ensures { result ≡ refused Behind byte }
+    ensures { result ≡ fault_at_spot Behind byte }
 {
     if is_space_byte(byte) {
         TextKind::BadUtf8
@@ -160,7 +160,7 @@ fn kind_behind(byte: u8) -> TextKind
 
 /// The kind of a fault at a byte.
 pub fn kind_at(stand: Stand, byte: u8) -> TextKind
-    ensures { result ≡ refused (seen stand) byte }
+    ensures { result ≡ fault_at_spot (seen stand) byte }
 {
     match stand {
         Stand::Start => kind_before(byte),

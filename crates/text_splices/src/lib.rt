@@ -3,9 +3,6 @@
 //! Places are bytes from the front of the text.
 #![tactic(auto)]
 
-#[cfg(test)]
-mod tests;
-
 ghost use Rattle.std.specs.Prelude.{◌≤◌, length, IfOk};
 ghost use Rattle.text_splices.specs.Splice.{IsSplice};
 ghost use Rattle.text_splices.specs.Laws.{OneLaw, UndoLaw, SizeLaw};

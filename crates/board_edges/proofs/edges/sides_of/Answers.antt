@@ -1,7 +1,7 @@
 use Rattle.std.proofs.Common.{◌∙◌, ◌++◌, ◌<◌, ap, sym, get_or, length, arith, pos}
 use Rattle.grid_num.specs.declared.Point.{Point}
 use Rattle.board_language.specs.Edges.{sides_to, sides_of}
-use Rattle.board_parts.proofs.Walks.{get_same}
+use Rattle.board_text.proofs.Walks.{get_same}
 use Rattle.board_edges.proofs.Sides.{side_more, side_none, all_sides, no_sides, some_corner}
 use Rattle.board_edges.proofs.edges.sides_of.Goals as goal
 

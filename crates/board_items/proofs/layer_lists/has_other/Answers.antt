@@ -1,7 +1,7 @@
 use Rattle.std.proofs.Common.{◌∙◌, ap, sym, not, true, false}
 use Rattle.std.specs.List.{list_any}
-use Rattle.board_language.specs.Layers.{is_among}
-use Rattle.board_parts.proofs.Walks.{any_here, any_none, any_of_map, get_same}
+use Rattle.board_text.specs.Layers.{is_among}
+use Rattle.board_text.proofs.Walks.{any_here, any_none, any_of_map, get_same}
 use Rattle.board_items.proofs.layer_lists.has_other.Goals as goal
 
 pub returns-then-not-has : goal.returns-then-not-has

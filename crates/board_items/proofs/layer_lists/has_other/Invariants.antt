@@ -1,6 +1,6 @@
 use Rattle.std.proofs.Common.{◌≡◌, not, drop}
 use Rattle.std.specs.List.{list_any}
-use Rattle.board_language.specs.Layers.{is_among}
+use Rattle.board_text.specs.Layers.{is_among}
 use Rattle.board_items.proofs.layer_lists.has_other.Given as goal
 
 abbrev pub invariant-each : goal.invariant-each

@@ -1,5 +1,5 @@
 use Rattle.std.proofs.Common.{◌≡◌, ◌++◌, drop, flat_map, map}
-use Rattle.board_language.specs.Layers.{meant_by}
+use Rattle.board_text.specs.Layers.{meant_by}
 use Rattle.board_items.proofs.layer_lists.meant_by_all.Given as goal
 
 abbrev pub invariant-each : goal.invariant-each

@@ -1,5 +1,5 @@
 use Rattle.std.proofs.Common.{◌≡◌, ◌++◌, drop, filter, map}
-use Rattle.board_language.specs.Layers.{is_outer}
+use Rattle.board_text.specs.Layers.{is_outer}
 use Rattle.board_items.proofs.layer_lists.outer_copies.Given as goal
 
 abbrev pub invariant-each : goal.invariant-each

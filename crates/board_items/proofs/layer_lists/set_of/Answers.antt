@@ -1,6 +1,6 @@
 use Rattle.std.proofs.Common.{◌∙◌, ◌-◌, ◌<◌, ◌^◌, arith, length, map}
-use Rattle.board_language.specs.Layers.{is_among}
-use Rattle.board_parts.proofs.Walks.{get_same}
+use Rattle.board_text.specs.Layers.{is_among}
+use Rattle.board_text.proofs.Walks.{get_same}
 use Rattle.board_items.proofs.Bits.{no_bit, all_bits, bit_more, set_below}
 use Rattle.board_items.proofs.layer_lists.set_of.Goals as goal
 

@@ -1,5 +1,5 @@
 use Rattle.std.proofs.Common.{◌≡◌, ◌-◌, drop, length, map}
-use Rattle.board_language.specs.Layers.{bits, is_among}
+use Rattle.board_text.specs.Layers.{bits, is_among}
 use Rattle.board_items.proofs.layer_lists.set_of.Given as goal
 
 abbrev pub invariant-each : goal.invariant-each

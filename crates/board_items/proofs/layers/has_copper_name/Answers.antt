@@ -1,7 +1,7 @@
 use Rattle.std.proofs.Common.{◌∙◌, ap, sym, true, false}
 use Rattle.std.specs.List.{list_any}
-use Rattle.board_language.specs.Layers.{is_copper}
-use Rattle.board_parts.proofs.Walks.{any_here, any_next, any_none, any_of_map, get_same}
+use Rattle.board_text.specs.Layers.{is_copper}
+use Rattle.board_text.proofs.Walks.{any_here, any_next, any_none, any_of_map, get_same}
 use Rattle.board_items.proofs.layers.has_copper_name.Goals as goal
 
 pub returns-then-is_copper : goal.returns-then-is_copper

@@ -1,8 +1,8 @@
 use Rattle.std.proofs.Common.{◌∙◌, sym, true, false}
 use Rattle.std.specs.List.{list_any}
-use Rattle.board_language.specs.Fields.{list_of}
-use Rattle.board_language.specs.Items.{is_bad_length}
-use Rattle.board_parts.proofs.Walks.{any_here, any_next, any_none, any_of_map, get_same}
+use Rattle.board_text.specs.Fields.{list_of}
+use Rattle.board_text.specs.Items.{is_bad_length}
+use Rattle.board_text.proofs.Walks.{any_here, any_next, any_none, any_of_map, get_same}
 use Rattle.board_items.proofs.lists.has_bad_length.Goals as goal
 
 pub returns-then-branch : goal.returns-then-branch

@@ -1,7 +1,7 @@
 use Rattle.std.proofs.Common.{◌≡◌, drop}
 use Rattle.std.specs.List.{list_any}
-use Rattle.board_language.specs.Fields.{list_of}
-use Rattle.board_language.specs.Items.{is_bad_length}
+use Rattle.board_text.specs.Fields.{list_of}
+use Rattle.board_text.specs.Items.{is_bad_length}
 use Rattle.board_items.proofs.lists.has_bad_length.Given as goal
 
 abbrev pub invariant-each : goal.invariant-each

@@ -1,7 +1,7 @@
 use Rattle.std.proofs.Common.{◌≡◌, drop}
 use Rattle.std.specs.List.{list_any}
-use Rattle.board_language.specs.Fields.{list_of}
-use Rattle.board_language.specs.Numbers.{is_short}
+use Rattle.board_text.specs.Fields.{list_of}
+use Rattle.board_text.specs.Numbers.{is_short}
 use Rattle.board_items.proofs.lists.has_short.Given as goal
 
 abbrev pub invariant-each : goal.invariant-each

@@ -1,6 +1,6 @@
 use Rattle.std.proofs.Common.{◌≡◌, not, drop}
 use Rattle.std.specs.List.{list_any}
-use Rattle.board_language.specs.Fields.{has_list}
+use Rattle.board_text.specs.Fields.{has_list}
 use Rattle.board_items.proofs.lists.lacks.Given as goal
 
 abbrev pub invariant-each : goal.invariant-each

@@ -1,6 +1,6 @@
 use Rattle.std.proofs.Common.{◌∙◌, ap, sym, not}
 use Rattle.std.specs.Str.{bytes_eq}
-use Rattle.board_parts.proofs.Walks.{get_same}
+use Rattle.board_text.proofs.Walks.{get_same}
 use Rattle.board_items.proofs.Before.{stops, ends}
 use Rattle.board_items.proofs.names.place_of.Goals as goal
 

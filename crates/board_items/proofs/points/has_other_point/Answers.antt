@@ -2,7 +2,7 @@ use Rattle.std.proofs.Common.{◌∙◌, ap, sym, not}
 use Rattle.std.specs.Prelude.{codes}
 use Rattle.std.specs.List.{list_any}
 use Rattle.sexpr_text.specs.Items.{is_headed}
-use Rattle.board_parts.proofs.Walks.{any_here, any_next, any_none, get_same}
+use Rattle.board_text.proofs.Walks.{any_here, any_next, any_none, get_same}
 use Rattle.board_items.proofs.points.has_other_point.Goals as goal
 
 pub returns-then-not-is_headed : goal.returns-then-not-is_headed

@@ -1,7 +1,7 @@
 use Rattle.std.proofs.Common.{◌∙◌, sym, Some}
 use Rattle.std.specs.List.{list_any}
-use Rattle.board_language.specs.Numbers.{is_short}
-use Rattle.board_parts.proofs.Walks.{any_here, any_next, any_none, get_same}
+use Rattle.board_text.specs.Numbers.{is_short}
+use Rattle.board_text.proofs.Walks.{any_here, any_next, any_none, get_same}
 use Rattle.board_items.proofs.points.has_short_point.Goals as goal
 
 pub returns-then-is_short : goal.returns-then-is_short

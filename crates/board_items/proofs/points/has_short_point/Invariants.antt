@@ -1,6 +1,6 @@
 use Rattle.std.proofs.Common.{◌≡◌, drop, Some}
 use Rattle.std.specs.List.{list_any}
-use Rattle.board_language.specs.Numbers.{is_short}
+use Rattle.board_text.specs.Numbers.{is_short}
 use Rattle.board_items.proofs.points.has_short_point.Given as goal
 
 abbrev pub invariant-each : goal.invariant-each

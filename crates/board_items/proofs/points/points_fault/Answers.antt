@@ -1,6 +1,6 @@
 use Rattle.std.proofs.Common.{◌∙◌, sym, map, Some}
-use Rattle.board_language.specs.Numbers.{first_of, point_fault}
-use Rattle.board_parts.proofs.Walks.{get_same}
+use Rattle.board_text.specs.Numbers.{first_of, point_fault}
+use Rattle.board_text.proofs.Walks.{get_same}
 use Rattle.board_items.proofs.Faults.{first_here, first_next, first_none}
 use Rattle.board_items.proofs.points.points_fault.Goals as goal
 

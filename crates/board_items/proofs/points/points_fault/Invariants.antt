@@ -1,5 +1,5 @@
 use Rattle.std.proofs.Common.{◌≡◌, map, drop, Some}
-use Rattle.board_language.specs.Numbers.{first_of, point_fault}
+use Rattle.board_text.specs.Numbers.{first_of, point_fault}
 use Rattle.board_items.proofs.points.points_fault.Given as goal
 
 abbrev pub invariant-each : goal.invariant-each

@@ -1,7 +1,7 @@
 use Rattle.std.proofs.Common.{◌≡◌, ◌++◌, map, drop, Some}
 use Rattle.std.specs.List.{All}
 use Rattle.grid_num.specs.Length.{IsInRange}
-use Rattle.board_language.specs.Items.{point_at}
+use Rattle.board_text.specs.Items.{point_at}
 use Rattle.board_items.proofs.points.points_of.Given as goal
 
 abbrev pub invariant-each : goal.invariant-each

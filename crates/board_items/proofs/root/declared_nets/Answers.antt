@@ -1,7 +1,7 @@
 use Rattle.std.proofs.Common.{◌≡◌, ◌∙◌, ap, arith, cond, filter_map, sym, Option, None, ℕ}
 use Rattle.std.specs.Prelude.{codes}
 use Rattle.sexpr_text.specs.Items.{Item, children_of, is_headed}
-use Rattle.board_language.specs.Items.{declared_net}
+use Rattle.board_text.specs.Items.{declared_net}
 use Rattle.board_items.proofs.Picks.{nets_are, pick_all, pick_more, pick_same}
 use Rattle.board_items.proofs.root.declared_nets.Goals as goal
 use Rattle.board_items.proofs.root.declared_nets.Goals.{in-Some+in_ok-push, in_default}

@@ -1,7 +1,7 @@
 use Rattle.std.proofs.Common.{◌≡◌, ◌++◌, cond, drop, filter_map, None}
 use Rattle.std.specs.Prelude.{codes}
 use Rattle.sexpr_text.specs.Items.{children_of, is_headed}
-use Rattle.board_language.specs.Items.{declared_net}
+use Rattle.board_text.specs.Items.{declared_net}
 use Rattle.board_items.proofs.root.declared_nets.Given as goal
 
 abbrev pub invariant-each : goal.invariant-each

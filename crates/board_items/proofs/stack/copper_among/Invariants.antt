@@ -1,5 +1,5 @@
 use Rattle.std.proofs.Common.{◌≡◌, ◌++◌, drop, filter, map}
-use Rattle.board_language.specs.Layers.{is_copper}
+use Rattle.board_text.specs.Layers.{is_copper}
 use Rattle.board_items.proofs.stack.copper_among.Given as goal
 
 abbrev pub invariant-each : goal.invariant-each

@@ -1,6 +1,6 @@
 use Rattle.std.proofs.Common.{◌≡◌, ◌∙◌, ap, filter, filter_map, map, subst}
 use Rattle.std.specs.Prelude.{IfOk}
-use Rattle.board_language.specs.Layers.{is_copper, name_of_layer}
+use Rattle.board_text.specs.Layers.{is_copper, name_of_layer}
 use Rattle.board_items.proofs.LayersOf.{names_are}
 use Rattle.board_items.proofs.stack.copper_in.Goals as goal
 

@@ -1,6 +1,6 @@
 use Rattle.std.proofs.Common.{◌∙◌, ◌+◌, ◌-◌, ap, sym, drop, length, map, take, true, false}
-use Rattle.board_language.specs.Layers.{has_double, is_among}
-use Rattle.board_parts.proofs.Walks.{get_same}
+use Rattle.board_text.specs.Layers.{has_double, is_among}
+use Rattle.board_text.proofs.Walks.{get_same}
 use Rattle.board_items.proofs.Doubles.{among_rest, double_here, double_next, double_none}
 use Rattle.board_items.proofs.stack.has_double.Goals as goal
 

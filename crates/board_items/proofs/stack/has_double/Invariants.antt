@@ -1,5 +1,5 @@
 use Rattle.std.proofs.Common.{◌≡◌, drop, map}
-use Rattle.board_language.specs.Layers.{has_double}
+use Rattle.board_text.specs.Layers.{has_double}
 use Rattle.board_items.proofs.stack.has_double.Given as goal
 
 abbrev pub invariant-each : goal.invariant-each

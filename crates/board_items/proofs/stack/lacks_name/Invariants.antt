@@ -1,7 +1,7 @@
 use Rattle.std.proofs.Common.{◌≡◌, drop}
 use Rattle.std.specs.Prelude.{is_none}
 use Rattle.std.specs.List.{list_any}
-use Rattle.board_language.specs.Layers.{name_of_layer}
+use Rattle.board_text.specs.Layers.{name_of_layer}
 use Rattle.board_items.proofs.stack.lacks_name.Given as goal
 
 abbrev pub invariant-each : goal.invariant-each

@@ -1,7 +1,7 @@
 use Rattle.std.proofs.Common.{◌∙◌, sym, map}
-use Rattle.board_language.specs.Numbers.{first_of}
-use Rattle.board_language.specs.Offences.{layer_fault}
-use Rattle.board_parts.proofs.Walks.{get_same}
+use Rattle.board_text.specs.Numbers.{first_of}
+use Rattle.board_text.specs.Layers.{layer_fault}
+use Rattle.board_text.proofs.Walks.{get_same}
 use Rattle.board_items.proofs.Faults.{first_here, first_next, first_none}
 use Rattle.board_items.proofs.stack.layers_fault.Goals as goal
 

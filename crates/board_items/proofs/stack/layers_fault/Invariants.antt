@@ -1,6 +1,6 @@
 use Rattle.std.proofs.Common.{◌≡◌, map, drop}
-use Rattle.board_language.specs.Numbers.{first_of}
-use Rattle.board_language.specs.Offences.{layer_fault}
+use Rattle.board_text.specs.Numbers.{first_of}
+use Rattle.board_text.specs.Layers.{layer_fault}
 use Rattle.board_items.proofs.stack.layers_fault.Given as goal
 
 abbrev pub invariant-each : goal.invariant-each

@@ -1,8 +1,8 @@
 use Rattle.std.proofs.Common.{◌∙◌, map, sym, arith}
 use Rattle.sexpr_text.specs.Items.{children_of}
-use Rattle.board_language.specs.Layers.{is_layer, layers_in}
-use Rattle.text_items.specs.Parts.{part_of}
-use Rattle.board_parts.proofs.Walks.{kept_more, kept_not, kept_all}
+use Rattle.board_text.specs.Layers.{is_layer, layers_in}
+use Rattle.sexpr_text.specs.Parts.{part_of}
+use Rattle.board_text.proofs.Walks.{kept_more, kept_not, kept_all}
 use Rattle.board_items.proofs.stack.layers_in.Goals as goal
 use Rattle.board_items.proofs.stack.layers_in.Goals.{then-is_layer+in_ok-push, else-is_layer}
 

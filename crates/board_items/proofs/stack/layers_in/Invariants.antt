@@ -1,7 +1,7 @@
 use Rattle.std.proofs.Common.{◌≡◌, ◌++◌, map, filter, drop}
 use Rattle.sexpr_text.specs.Items.{children_of}
-use Rattle.board_language.specs.Layers.{is_layer, layers_in}
-use Rattle.text_items.specs.Parts.{part_of}
+use Rattle.board_text.specs.Layers.{is_layer, layers_in}
+use Rattle.sexpr_text.specs.Parts.{part_of}
 use Rattle.board_items.proofs.stack.layers_in.Given as goal
 
 abbrev pub invariant-each : goal.invariant-each

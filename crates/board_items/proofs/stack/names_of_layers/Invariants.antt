@@ -1,5 +1,5 @@
 use Rattle.std.proofs.Common.{◌≡◌, ◌++◌, drop, filter_map, map}
-use Rattle.board_language.specs.Layers.{name_of_layer}
+use Rattle.board_text.specs.Layers.{name_of_layer}
 use Rattle.board_items.proofs.stack.names_of_layers.Given as goal
 
 abbrev pub invariant-each : goal.invariant-each

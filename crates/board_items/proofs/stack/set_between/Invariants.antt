@@ -1,5 +1,5 @@
 use Rattle.std.proofs.Common.{◌≡◌, ◌-◌}
-use Rattle.board_language.specs.Layers.{bits, between_from}
+use Rattle.board_text.specs.Layers.{bits, between_from}
 use Rattle.board_items.proofs.stack.set_between.Given as goal
 
 abbrev pub invariant-each : goal.invariant-each

@@ -1,7 +1,7 @@
 use Rattle.std.proofs.Common.{◌≡◌, ◌∙◌, ◌&&◌, ◌||◌, sym, ap, arith}
 use Rattle.std.specs.Prelude.{codes}
 use Rattle.sexpr_text.specs.Items.{children_of, is_headed}
-use Rattle.board_fields.specs.Lists.{is_list}
+use Rattle.board_text.specs.Lists.{is_list}
 use Rattle.board_language.specs.Pads.{bridge_list}
 use Rattle.board_pads.proofs.Bridges.{find_kept, found_here, found_next, found_none}
 use Rattle.board_pads.proofs.bridge.bridge_list.Goals as goal

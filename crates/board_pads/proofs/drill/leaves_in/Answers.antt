@@ -1,8 +1,8 @@
 use Rattle.std.proofs.Common.{◌∙◌, map, not, sym, ap, arith}
 use Rattle.sexpr_text.specs.Items.{children_of}
-use Rattle.board_fields.specs.Lists.{is_list}
-use Rattle.text_items.specs.Parts.{part_of}
-use Rattle.board_parts.proofs.Walks.{kept_more, kept_not, kept_all}
+use Rattle.board_text.specs.Lists.{is_list}
+use Rattle.sexpr_text.specs.Parts.{part_of}
+use Rattle.board_text.proofs.Walks.{kept_more, kept_not, kept_all}
 use Rattle.board_pads.specs.Drills.{leaves_in}
 use Rattle.board_pads.proofs.drill.leaves_in.Goals as goal
 use Rattle.board_pads.proofs.drill.leaves_in.Goals.{then-not-is_list+in_ok-push, else-not-is_list}

@@ -1,7 +1,7 @@
 use Rattle.std.proofs.Common.{◌≡◌, ◌++◌, not, map, filter, drop}
 use Rattle.sexpr_text.specs.Items.{children_of}
-use Rattle.board_fields.specs.Lists.{is_list}
-use Rattle.text_items.specs.Parts.{part_of}
+use Rattle.board_text.specs.Lists.{is_list}
+use Rattle.sexpr_text.specs.Parts.{part_of}
 use Rattle.board_pads.specs.Drills.{leaves_in}
 use Rattle.board_pads.proofs.drill.leaves_in.Given as goal
 

@@ -1,7 +1,7 @@
 use Rattle.std.proofs.Common.{◌≡◌, ◌∙◌, ◌&&◌, ap, sym, not, true, false}
 use Rattle.std.specs.List.{list_any}
-use Rattle.board_language.specs.Numbers.{is_decimal, is_zero}
-use Rattle.board_parts.proofs.Walks.{any_here, any_next, any_none, any_of_map, get_same}
+use Rattle.board_text.specs.Numbers.{is_decimal, is_zero}
+use Rattle.board_text.proofs.Walks.{any_here, any_next, any_none, any_of_map, get_same}
 use Rattle.board_pads.proofs.form.has_other.Goals as goal
 
 pub returns-then-is_other : goal.returns-then-is_other

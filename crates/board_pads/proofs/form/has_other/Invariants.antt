@@ -1,6 +1,6 @@
 use Rattle.std.proofs.Common.{◌≡◌, ◌&&◌, not, drop}
 use Rattle.std.specs.List.{list_any}
-use Rattle.board_language.specs.Numbers.{is_decimal, is_zero}
+use Rattle.board_text.specs.Numbers.{is_decimal, is_zero}
 use Rattle.board_pads.proofs.form.has_other.Given as goal
 
 abbrev pub invariant-each : goal.invariant-each

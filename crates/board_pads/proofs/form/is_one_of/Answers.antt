@@ -1,8 +1,8 @@
 use Rattle.std.proofs.Common.{◌≡◌, ◌∙◌, ap, sym, true, false}
 use Rattle.std.specs.Prelude.{option_map}
 use Rattle.std.specs.List.{list_any}
-use Rattle.board_language.specs.Fields.{is_text}
-use Rattle.board_parts.proofs.Walks.{any_here, any_next, any_none, any_of_map, get_same}
+use Rattle.board_text.specs.Fields.{is_text}
+use Rattle.board_text.proofs.Walks.{any_here, any_next, any_none, any_of_map, get_same}
 use Rattle.board_pads.proofs.form.is_one_of.Goals as goal
 
 pub returns-then-is_text : goal.returns-then-is_text

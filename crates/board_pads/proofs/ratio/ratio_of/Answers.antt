@@ -3,7 +3,7 @@ use Rattle.grid_num.specs.Spelling.{number}
 use Rattle.grid_num.specs.Length.{with_sign}
 use Rattle.grid_num.specs.Parts.{fraction_of, whole_of}
 use Rattle.std.specs.Prelude.{◌++◌}
-use Rattle.board_language.specs.Numbers.{ten_places}
+use Rattle.board_text.specs.Numbers.{ten_places}
 use Rattle.board_pads.specs.Ratios.{kept_ratio}
 use Rattle.board_pads.proofs.Ratios.{none_kept, some_kept}
 use Rattle.board_pads.proofs.ratio.ratio_of.Goals as goal

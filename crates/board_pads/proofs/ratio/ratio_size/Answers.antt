@@ -1,7 +1,7 @@
 use Rattle.std.proofs.Common.{◌≡◌, ◌∙◌, sym, ap, min}
 use Rattle.grid_num.specs.Spelling.{number, number_after}
 use Rattle.grid_num.specs.Parts.{fraction_of, whole_of}
-use Rattle.board_language.specs.Numbers.{ten_places}
+use Rattle.board_text.specs.Numbers.{ten_places}
 use Rattle.board_pads.proofs.Ratios.{both_parts}
 use Rattle.board_pads.proofs.ratio.ratio_size.Goals as goal
 

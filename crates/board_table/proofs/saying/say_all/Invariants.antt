@@ -1,14 +1,14 @@
 use Rattle.std.proofs.Common.{◌≡◌, ◌-◌, ◌≤◌, length, take, Some}
 use Rattle.desk.specs.Seen.{Told, with_said}
 use Rattle.desk.specs.Faults.{OnlySaying}
-use Rattle.desk.specs.Room.{HasRoom}
+use Rattle.desk.specs.Room.{HasRoomTold}
 use Rattle.board_table.proofs.saying.say_all.Given as goal
 
 abbrev pub invariant-sayings : goal.invariant-sayings
 invariant-sayings g l = record {
   within : l.given ≤ length l.bytes;
   so_far : Told (g.D.Desk.seen l.fn.desk) (λ s. g.D.Desk.seen l.desk ≡ Some (with_said (take l.given l.bytes) s));
-  room : HasRoom (g.D.Desk.room l.desk) (length l.bytes - l.given);
+  room : HasRoomTold (g.D.Desk.room l.desk) (length l.bytes - l.given);
   later : (g.D.Desk.counts l.fn.desk).saying ≤ (g.D.Desk.counts l.desk).saying;
   others : OnlySaying (g.D.Desk.counts l.fn.desk) (g.D.Desk.counts l.desk);
 }

@@ -1,6 +1,6 @@
 use Rattle.std.proofs.Common.{◌∙◌, ap, sym, arith, length}
 use Rattle.sexpr_text.specs.Items.{is_headed, children_of}
-use Rattle.board_fields.specs.Lists.{headed}
+use Rattle.board_text.specs.Lists.{headed}
 use Rattle.board_zones.proofs.Children.{counted_one, counted_not}
 use Rattle.board_zones.proofs.lists.count_headed.Goals as goal
 use Rattle.board_zones.proofs.lists.count_headed.Goals.{then-is_headed, else-is_headed}

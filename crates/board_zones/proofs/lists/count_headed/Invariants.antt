@@ -1,6 +1,6 @@
 use Rattle.std.proofs.Common.{◌≡◌, ◌≤◌, ◌+◌, length, filter, drop}
 use Rattle.sexpr_text.specs.Items.{is_headed, children_of}
-use Rattle.board_fields.specs.Lists.{headed}
+use Rattle.board_text.specs.Lists.{headed}
 use Rattle.board_zones.proofs.lists.count_headed.Given as goal
 
 abbrev pub invariant-each : goal.invariant-each

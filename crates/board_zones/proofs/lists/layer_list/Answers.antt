@@ -1,7 +1,7 @@
 use Rattle.std.proofs.Common.{◌||◌, ◌∙◌, ap, sym, arith, Bool, ℕ, List}
 use Rattle.std.specs.Prelude.{codes}
 use Rattle.sexpr_text.specs.Items.{Item, is_headed, children_of}
-use Rattle.board_fields.specs.Lists.{is_list}
+use Rattle.board_text.specs.Lists.{is_list}
 use Rattle.board_language.specs.Zones.{layer_list}
 use Rattle.board_zones.proofs.Children.{found_here, found_not_q, found_not_p}
 use Rattle.board_zones.proofs.lists.layer_list.Goals as goal

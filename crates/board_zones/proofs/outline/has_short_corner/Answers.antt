@@ -1,5 +1,5 @@
 use Rattle.std.proofs.Common.{◌∙◌, Some}
-use Rattle.board_language.specs.Numbers.{is_short}
+use Rattle.board_text.specs.Numbers.{is_short}
 use Rattle.board_language.specs.Zones.{corner_lists}
 use Rattle.board_zones.proofs.Corners.{any_through}
 use Rattle.board_zones.proofs.outline.has_short_corner.Goals as goal

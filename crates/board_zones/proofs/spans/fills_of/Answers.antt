@@ -1,7 +1,7 @@
 use Rattle.std.proofs.Common.{◌∙◌, ap, sym, arith, map, filter}
 use Rattle.sexpr_text.specs.Items.{children_of}
-use Rattle.board_fields.specs.Lists.{is_list, lists_of}
-use Rattle.board_language.specs.Items.{span_of}
+use Rattle.board_text.specs.Lists.{is_list, lists_of}
+use Rattle.board_text.specs.Items.{span_of}
 use Rattle.board_language.specs.Zones.{is_fill}
 use Rattle.board_zones.proofs.Children.{taken_more, taken_not_q, taken_not_p}
 use Rattle.board_zones.proofs.spans.fills_of.Goals as goal

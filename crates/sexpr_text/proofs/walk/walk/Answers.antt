@@ -1,7 +1,7 @@
 use Rattle.std.proofs.Common.{◌≡◌, ◌⊎◌, slice_index, inl, inr, arith, refl, sym, ◌∙◌, subst}
 use Rattle.sexpr_text.specs.Faults.{IsFault}
 use Rattle.sexpr_text.specs.Spot.{step}
-use Rattle.sexpr_text.specs.Spot.Spot.{Lost}
+use Rattle.sexpr_text.specs.Spot.TextSpot.{Lost}
 use Rattle.sexpr_text.specs.Cut.{cut_step, cuts}
 use Rattle.sexpr_text.specs.Cut.Cut.{Broken}
 use Rattle.sexpr_text.specs.Seen.{seen, seen_cut}

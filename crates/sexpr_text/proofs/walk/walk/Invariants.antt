@@ -1,6 +1,6 @@
 use Rattle.std.proofs.Common.{length, ◌-◌, ◌≡◌, ◌≢◌, ◌≤◌, take}
-use Rattle.sexpr_text.specs.Spot.{spot}
-use Rattle.sexpr_text.specs.Spot.Spot.{Lost}
+use Rattle.sexpr_text.specs.Spot.{text_spot}
+use Rattle.sexpr_text.specs.Spot.TextSpot.{Lost}
 use Rattle.sexpr_text.specs.Cut.{cuts}
 use Rattle.sexpr_text.specs.Cut.Cut.{Full, Broken}
 use Rattle.sexpr_text.specs.Seen.{seen, is_room, seen_cut}
@@ -9,7 +9,7 @@ use Rattle.sexpr_text.proofs.walk.walk.Given as goal
 abbrev pub invariant-each : goal.invariant-each
 invariant-each l = record {
   within : l.at ≤ length l.bytes;
-  stands : seen l.stand ≡ spot l.bytes l.at;
+  stands : seen l.stand ≡ text_spot l.bytes l.at;
   alive : seen l.stand ≢ Lost;
   room : is_room l.stand;
   cuts_so : seen_cut l.cut ≡ cuts Full (take l.at l.bytes);

@@ -1,5 +1,5 @@
 use Rattle.std.proofs.Common.{◌∙◌, ap}
-use Rattle.board_language.specs.Layers.{is_among}
+use Rattle.board_text.specs.Layers.{is_among}
 use Rattle.board_items.specs.Stamps.{stamps_of}
 use Rattle.board_items.proofs.StampTables.{among_is}
 use Rattle.board_items.proofs.stamps.Stamps.has.Goals as goal

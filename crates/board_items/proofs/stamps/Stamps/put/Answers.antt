@@ -1,7 +1,7 @@
 use Rattle.std.proofs.Common.{◌≡◌, ◌∙◌, ap, sym, false}
 use Rattle.std.specs.Str.{bytes_eq}
 use Rattle.indexmap.proofs.CallerLemmas.{insert_entry-new}
-use Rattle.board_language.specs.Layers.{is_among}
+use Rattle.board_text.specs.Layers.{is_among}
 use Rattle.board_items.specs.Stamps.{stamps_of, with_stamp}
 use Rattle.board_items.proofs.StampTables.{none_found, pairs, put_more}
 use Rattle.board_items.proofs.stamps.Stamps.put.Goals as goal

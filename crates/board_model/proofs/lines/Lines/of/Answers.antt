@@ -1,5 +1,5 @@
 use Rattle.std.proofs.Common.{arith, refl}
-use Rattle.board_language.specs.Items.{line_of}
+use Rattle.board_text.specs.Items.{line_of}
 use Rattle.board_model.proofs.lines.Lines.of.Goals as goal
 
 pub invariant_of-result : goal.invariant_of-result

@@ -1,5 +1,0 @@
-use Rattle.board_model.proofs.OneOffence.{one_offence, no_offence}
-use Rattle.board_model.proofs.laws.one_offence_law.Goals as goal
-
-pub returns : goal.returns
-returns c = record { one = one_offence; none = no_offence }

@@ -1,3 +1,0 @@
-pub mod AtPart
-pub mod Walks
-pub mod Wholes

@@ -1,7 +1,0 @@
-use Rattle.std.proofs.Common.{◌≡◌}
-use Rattle.board_parts.proofs.AtPart.{at_part}
-use Rattle.board_parts.proofs.part.Part.kind.Goals as goal
-
-pub returns : goal.returns
-returns c =
-    rw (← c.self.view_is) (at_part {P = λ i. c.kind.result ≡ i.kind} c.self.inside.bytes.now c.self.inside.tree.now c.self.inside.id c.self.invariant c.kind.ensures.item)

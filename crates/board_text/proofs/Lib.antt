@@ -1,0 +1,5 @@
+pub mod AtPart
+pub mod Walks
+pub mod Wholes
+pub mod Lengths
+pub mod Solid
