@@ -1,6 +1,6 @@
 -- One more cell of a row, and one more row.
 use Rattle.std.proofs.Common.{◌≡◌, ◌∙◌, ap, sym, ℕ, suc, ◌+◌, ◌-◌, ◌/◌, ◌<◌, List, ◌++◌, append_assoc, append-nil, add-one, arith}
-use Rattle.board_gen.specs.Generated.{next, drawn, place, item_text, number_behind, state_after, number_after, row_text, rows_text}
+use Rattle.board_gen.specs.Generated.{next, drawn, place, item_text, number_behind, state_after, number_after_cells, row_text, rows_text}
 
 one_less : (size k : ℕ) → k < size → size - k ≡ suc (size - (k + 1))
 one_less size k l = omega (arith, l)
@@ -28,10 +28,10 @@ text_next size row column s i t r x y j out new all l et er ex ey ej e h =
 pub state_next : (size k s t : ℕ) (all : ℕ) → k < size → t ≡ next s → state_after s (size - k) ≡ all → state_after t (size - (k + 1)) ≡ all
 state_next size k s t all l e h = ap (λ a. state_after a (size - (k + 1))) e ∙ sym (ap (state_after s) (one_less size k l)) ∙ h
 
-pub number_next : (size k s i t r j all : ℕ) → k < size → t ≡ next s → r ≡ drawn t → j ≡ number_behind r i → number_after s i (size - k) ≡ all → number_after t j (size - (k + 1)) ≡ all
+pub number_next : (size k s i t r j all : ℕ) → k < size → t ≡ next s → r ≡ drawn t → j ≡ number_behind r i → number_after_cells s i (size - k) ≡ all → number_after_cells t j (size - (k + 1)) ≡ all
 number_next size k s i t r j all l et er ej h =
     let dj : j ≡ number_behind (drawn (next s)) i = ej ∙ ap (λ a. number_behind a i) (er ∙ ap drawn et) in
-    ap (λ a. number_after a j (size - (k + 1))) et ∙ ap (λ a. number_after (next s) a (size - (k + 1))) dj ∙ sym (ap (number_after s i) (one_less size k l)) ∙ h
+    ap (λ a. number_after_cells a j (size - (k + 1))) et ∙ ap (λ a. number_after_cells (next s) a (size - (k + 1))) dj ∙ sym (ap (number_after_cells s i) (one_less size k l)) ∙ h
 
 nothing : (size : ℕ) → size - size ≡ 0
 nothing size = omega arith
@@ -42,19 +42,19 @@ row_end size row s i out all h = sym (append-nil out) ∙ sym (ap (λ n. out ++ 
 pub state_end : (size s all : ℕ) → state_after s (size - size) ≡ all → s ≡ all
 state_end size s all h = sym (ap (state_after s) (nothing size)) ∙ h
 
-pub number_end : (size s i all : ℕ) → number_after s i (size - size) ≡ all → i ≡ all
-number_end size s i all h = sym (ap (number_after s i) (nothing size)) ∙ h
+pub number_end : (size s i all : ℕ) → number_after_cells s i (size - size) ≡ all → i ≡ all
+number_end size s i all h = sym (ap (number_after_cells s i) (nothing size)) ∙ h
 
-pub rows_next : (size row s i t j : ℕ) (out new all : List ℕ) → row < size → t ≡ state_after s size → j ≡ number_after s i size → new ≡ out ++ row_text row 0 s i size
+pub rows_next : (size row s i t j : ℕ) (out new all : List ℕ) → row < size → t ≡ state_after s size → j ≡ number_after_cells s i size → new ≡ out ++ row_text row 0 s i size
     → out ++ rows_text size row s i (size - row) ≡ all → new ++ rows_text size (row + 1) t j (size - (row + 1)) ≡ all
 rows_next size row s i t j out new all l et ej e h =
     let m = size - (row + 1) in
     let one = row_text row 0 s i size in
-    let rest = rows_text size (suc row) (state_after s size) (number_after s i size) m in
+    let rest = rows_text size (suc row) (state_after s size) (number_after_cells s i size) m in
     let split : rows_text size row s i (size - row) ≡ one ++ rest = ap (rows_text size row s i) (one_less size row l) in
     ap (λ k. new ++ rows_text size (row + 1) k j m) et
     ∙ ap (λ k. new ++ rows_text size (row + 1) (state_after s size) k m) ej
-    ∙ ap (λ k. new ++ rows_text size k (state_after s size) (number_after s i size) m) (add-one row)
+    ∙ ap (λ k. new ++ rows_text size k (state_after s size) (number_after_cells s i size) m) (add-one row)
     ∙ ap (λ k. k ++ rest) e
     ∙ append_assoc out one rest
     ∙ ap (λ k. out ++ k) (sym split)

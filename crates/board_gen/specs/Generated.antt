@@ -26,21 +26,22 @@ abbrev pub place : ℕ → ℕ → ℕ
 place cell moved = 2000000 * cell + 1000000 + 4000 * (moved % 101) - 50 * 4000
 
 -- a point in millimetres
-abbrev pub point_text : ℕ → ℕ → List ℕ
-point_text x y = mm_of (pos x) ++ (codes " " ++ mm_of (pos y))
+abbrev pub corner_in_mm : ℕ → ℕ → List ℕ
+corner_in_mm x y = mm_of (pos x) ++ (codes " " ++ mm_of (pos y))
 
 -- an item's stamp has the item's number
 abbrev pub stamp_text : ℕ → List ℕ
 stamp_text i = codes " (tstamp g" ++ (decimal i ++ codes "))\n")
 
+-- the line of a via
 abbrev pub via_text : List ℕ → ℕ → ℕ → ℕ → List ℕ
 via_text net x y i =
-    codes "  (via (at " ++ (point_text x y ++ (codes ") (size 0.6) (drill 0.3) (layers \"F.Cu\" \"B.Cu\") (net " ++ (net ++ (codes ")" ++ stamp_text i))))
+    codes "  (via (at " ++ (corner_in_mm x y ++ (codes ") (size 0.6) (drill 0.3) (layers \"F.Cu\" \"B.Cu\") (net " ++ (net ++ (codes ")" ++ stamp_text i))))
 
 -- from half a millimetre left of the place to half a millimetre right and a quarter below
 abbrev pub track_text : ℕ → ℕ → ℕ → List ℕ
 track_text x y i =
-    codes "  (segment (start " ++ (point_text (x - 500000) y ++ (codes ") (end " ++ (point_text (x + 500000) (y + 250000) ++ (codes ") (width 0.25) (layer \"F.Cu\") (net 2)" ++ stamp_text i))))
+    codes "  (segment (start " ++ (corner_in_mm (x - 500000) y ++ (codes ") (end " ++ (corner_in_mm (x + 500000) (y + 250000) ++ (codes ") (width 0.25) (layer \"F.Cu\") (net 2)" ++ stamp_text i))))
 
 -- a cell has a via of net 1, a via of net 2, a track of net 2 or nothing, by the drawn number
 abbrev pub item_text : ℕ → ℕ → ℕ → ℕ → List ℕ
@@ -54,9 +55,10 @@ item_text r x y i =
 abbrev pub number_behind : ℕ → ℕ → ℕ
 number_behind r i = if r % 4 == 3 then i else suc i
 
-abbrev pub number_after : ℕ → ℕ → ℕ → ℕ
-number_after s i zero = i
-number_after s i (suc n) = number_after (next s) (number_behind (drawn (next s)) i) n
+-- the number of the next item, n cells further on
+abbrev pub number_after_cells : ℕ → ℕ → ℕ → ℕ
+number_after_cells s i zero = i
+number_after_cells s i (suc n) = number_after_cells (next s) (number_behind (drawn (next s)) i) n
 
 -- ---- rows of cells: one draw for each cell
 
@@ -70,29 +72,35 @@ row_text row column s i (suc n) =
 -- the rows from one on, so many
 abbrev pub rows_text : ℕ → ℕ → ℕ → ℕ → ℕ → List ℕ
 rows_text size row s i zero = []
-rows_text size row s i (suc n) = row_text row 0 s i size ++ rows_text size (suc row) (state_after s size) (number_after s i size) n
+rows_text size row s i (suc n) = row_text row 0 s i size ++ rows_text size (suc row) (state_after s size) (number_after_cells s i size) n
 
 -- ---- the board
 
-abbrev pub head_text : List ℕ
-head_text = codes "(kicad_pcb (version 20221018) (generator zonefill)\n  (layers (0 \"F.Cu\" signal) (31 \"B.Cu\" signal))\n  (net 0 \"\")\n  (net 1 \"GND\")\n  (net 2 \"VCC\")\n"
+-- the head of the board, its layers and its nets
+abbrev pub opening_lines : List ℕ
+opening_lines = codes "(kicad_pcb (version 20221018) (generator zonefill)\n  (layers (0 \"F.Cu\" signal) (31 \"B.Cu\" signal))\n  (net 0 \"\")\n  (net 1 \"GND\")\n  (net 2 \"VCC\")\n"
 
+-- the first line of the zone on the front
 abbrev pub front_text : List ℕ
 front_text = codes "  (zone (net 1) (net_name \"GND\") (layer \"F.Cu\") (tstamp zf) (hatch edge 0.5)\n"
 
+-- the first line of the zone on the back
 abbrev pub back_text : List ℕ
 back_text = codes "  (zone (net 2) (net_name \"VCC\") (layer \"B.Cu\") (tstamp zb) (hatch edge 0.5)\n"
 
+-- what both zones say of their fill, up to the first corner
 abbrev pub settings_text : List ℕ
 settings_text = codes "    (connect_pads (clearance 0.2))\n    (min_thickness 0.25)\n    (fill yes (thermal_gap 0.5) (thermal_bridge_width 0.5) (island_removal_mode 1))\n    (polygon (pts (xy 0 0) (xy "
 
 -- the zones are as wide and high as all cells
 abbrev pub corners_text : ℕ → List ℕ
 corners_text size =
-    mm_of (pos (2000000 * size)) ++ (codes " 0) (xy " ++ (point_text (2000000 * size) (2000000 * size) ++ (codes ") (xy 0 " ++ (mm_of (pos (2000000 * size)) ++ codes ")))\n  )\n"))))
+    mm_of (pos (2000000 * size)) ++ (codes " 0) (xy " ++ (corner_in_mm (2000000 * size) (2000000 * size) ++ (codes ") (xy 0 " ++ (mm_of (pos (2000000 * size)) ++ codes ")))\n  )\n"))))
 
+-- a zone by its first line: the square of so many cells
 abbrev pub zone_text : List ℕ → ℕ → List ℕ
 zone_text line size = line ++ (settings_text ++ corners_text size)
 
+-- the board of a seed and a size: its items row by row, and then its two zones
 abbrev pub generated : ℕ → ℕ → List ℕ
-generated seed size = head_text ++ (rows_text size 0 seed 1 size ++ ((zone_text front_text size ++ zone_text back_text size) ++ codes ")\n"))
+generated seed size = opening_lines ++ (rows_text size 0 seed 1 size ++ ((zone_text front_text size ++ zone_text back_text size) ++ codes ")\n"))

@@ -2,6 +2,7 @@
 use Rattle.std.specs.Prelude.{◌≡◌, []}
 use Rattle.board_gen.specs.Generated.{next, drawn, place, rows_text}
 
+-- what is drawn first of the seed 0, and how far from the middle of a cell its item may stand
 pub record DrawLaw : Type 0 where
   -- of the seed 0
   pub first : drawn (next 0) ≡ 167951807

@@ -2,7 +2,7 @@
 ghost use Rattle.std.specs.Prelude.{◌≡◌, ◌≤◌, ◌++◌, pos, OnOk};
 ghost use Rattle.std.specs.Fmt.{decimal};
 ghost use Rattle.grid_num.specs.Written.{mm_of};
-ghost use Rattle.board_gen.specs.Generated.{point_text, stamp_text};
+ghost use Rattle.board_gen.specs.Generated.{corner_in_mm, stamp_text};
 
 use grid_num::{Memory, MmText, Nm, write_mm};
 use itoa::Buffer;
@@ -30,7 +30,7 @@ pub fn add_length(out: &mut Vec<u8>, nm: u64) -> Result<(), Memory>
 pub fn add_point(out: &mut Vec<u8>, x: u64, y: u64) -> Result<(), Memory>
     requires x { x ≤ 500000000 }
     requires y { y ≤ 500000000 }
-    ensures { OnOk result (out.new.items ≡ out.old.items ++ point_text x y) }
+    ensures { OnOk result (out.new.items ≡ out.old.items ++ corner_in_mm x y) }
 {
     add_length(out, x)?;
     add(out, b" ")?;

@@ -1,6 +1,6 @@
 // The whole board.
 ghost use Rattle.std.specs.Prelude.{◌≡◌, ◌≤◌, ◌++◌, OnOk, IfOk};
-ghost use Rattle.board_gen.specs.Generated.{corners_text, settings_text, zone_text, front_text, back_text, head_text, rows_text, generated};
+ghost use Rattle.board_gen.specs.Generated.{corners_text, settings_text, zone_text, front_text, back_text, opening_lines, rows_text, generated};
 
 use crate::add::{add, add_length, add_point};
 use crate::item::{Walk, add_row};
@@ -60,7 +60,7 @@ fn add_rows(out: &mut Vec<u8>, seed: u64, size: u32) -> Result<(), Memory>
 
 /// Adds the lines before the items.
 fn add_head(out: &mut Vec<u8>) -> Result<(), Memory>
-    ensures { OnOk result (out.new.items ≡ out.old.items ++ head_text) }
+    ensures { OnOk result (out.new.items ≡ out.old.items ++ opening_lines) }
 {
     add(
         out,

@@ -1,6 +1,6 @@
 // The vias and tracks of the cells.
 ghost use Rattle.std.specs.Prelude.{◌≡◌, ◌+◌, ◌≤◌, ◌<◌, ◌++◌, OnOk, IfOk};
-ghost use Rattle.board_gen.specs.Generated.{via_text, track_text, item_text, number_behind, row_text, state_after, number_after};
+ghost use Rattle.board_gen.specs.Generated.{via_text, track_text, item_text, number_behind, row_text, state_after, number_after_cells};
 
 use crate::add::{add, add_point, add_stamp};
 use crate::draw::{drawn, next, place};
@@ -79,7 +79,7 @@ pub fn add_row(out: &mut Vec<u8>, size: u64, row: u64, walk: Walk) -> Result<Wal
     requires number { walk.number ≤ 100000 }
     ensures text { OnOk result (out.new.items ≡ out.old.items ++ row_text row 0 walk.state walk.number size) }
     ensures state { IfOk result (λ w. w.state ≡ state_after walk.state size) }
-    ensures number { IfOk result (λ w. w.number ≡ number_after walk.state walk.number size) }
+    ensures number { IfOk result (λ w. w.number ≡ number_after_cells walk.state walk.number size) }
     ensures most { IfOk result (λ w. w.number ≤ walk.number + size) }
 {
     let mut state = walk.state;

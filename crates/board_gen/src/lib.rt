@@ -7,8 +7,6 @@ mod add;
 mod board;
 mod draw;
 mod item;
-#[cfg(test)]
-mod tests;
 
 ghost use Rattle.board_gen.specs.Laws.{DrawLaw};
 

@@ -9,7 +9,7 @@ use Rattle.hulls.specs.Cells.{around}
 use Rattle.classes.specs.Classes.{IsOneOf}
 use Rattle.board_language.specs.declared.board.Rules.{Rules}
 use Rattle.board_language.specs.Board.{Board}
-use Rattle.fill_rules.specs.Tasks.{Task, Settings, settings_of, no_zone, no_task, has_layer, zone_of, ranked, task_at, zone_at, layer_at}
+use Rattle.fill_rules.specs.Tasks.{Task, Settings, settings_of, no_zone, no_task, has_layer, task_zone, ranked, task_at, zone_at, layer_at}
 use Rattle.fill_rules.specs.Needs.{is_foreign, units, item_need, zone_need, Need, item_needs}
 use Rattle.fill_rules.specs.Anchors.{IsTouching, anchors_of}
 use Rattle.fill_rules.specs.Reach.{IsReaching}
@@ -18,9 +18,8 @@ use Rattle.fill_rules.specs.Edits.{unplaced, unplaced_via, AreAmong, Placing, pl
 use Rattle.fill_rules.specs.Ranking.{IsTask, Outranks}
 use Rattle.fill_rules.proofs.Members.{map_one_of}
 use Rattle.fill_rules.proofs.SameTasks.{get_or_map, task_same}
-use Rattle.fill_rules.proofs.ZoneEdits.{settings_law}
-use Rattle.fill_rules.proofs.Beside.{items_to, anchors_to}
-use Rattle.dirty_rules.specs.Dirty.{IsRankOf, AreInReach, IsZoneDirtying, layers_of, IsSameButPriority, AreOldRanks}
+use Rattle.fill_rules.proofs.ZoneEdits.{HasSameItems, items_there, items_back, anchors_there, anchors_back, settings_law}
+use Rattle.dirty_rules.specs.Dirty.{IsRankOf, AreTasksInReach, IsZoneDirtying, layers_of, IsSameButPriority, AreOldRanks}
 use Rattle.dirty_rules.specs.Laws.{ClearanceLaw, PriorityLaw}
 use Rattle.dirty_rules.proofs.Ranks.{outranks, is_above, one_rank, task_of, rank_of}
 
@@ -30,11 +29,11 @@ own_dirties : (b d : Board) (n : ℕ) (t : Task) → t.zone ≡ n → IsZoneDirt
 unfolding IsZoneDirtying
 own_dirties b d n t e = inl e
 
-before_dirties : (b d : Board) (n : ℕ) (s t : Task) → s.zone ≡ n → AreInReach b s t → IsZoneDirtying b d n t
+before_dirties : (b d : Board) (n : ℕ) (s t : Task) → s.zone ≡ n → AreTasksInReach b s t → IsZoneDirtying b d n t
 unfolding IsZoneDirtying
 before_dirties b d n s t e r = inr (s, e, inl r)
 
-after_dirties : (b d : Board) (n : ℕ) (s t : Task) → s.zone ≡ n → AreInReach d s t → IsZoneDirtying b d n t
+after_dirties : (b d : Board) (n : ℕ) (s t : Task) → s.zone ≡ n → AreTasksInReach d s t → IsZoneDirtying b d n t
 unfolding IsZoneDirtying
 after_dirties b d n s t e r = inr (s, e, inr r)
 
@@ -87,22 +86,15 @@ clearance_law b d n s one k l clean =
 
 -- ---- a new priority
 
-among_same : {A : Type 0} (alike : A → A) (xs ys : List A) → map alike xs ≡ map alike ys → AreAmong alike [] xs ys
-among_same alike xs ys e x i = inl (subst (IsOneOf (alike x)) e (map_one_of alike x xs i))
-
-none : {A : Type 0} (x : A) → IsOneOf x [] → ⊥
-unfolding IsOneOf
-none x i = i
-
 module _ (b d : Board) (n : ℕ) (s : IsSameButPriority b d n) where
-  settings_same : (t : Task) → settings_of (zone_of b t) ≡ settings_of (zone_of d t)
-  unfolding zone_of
+  settings_same : (t : Task) → settings_of (task_zone b t) ≡ settings_of (task_zone d t)
+  unfolding task_zone
   settings_same t =
       get_or_map settings_of b.zones t.zone no_zone
       ∙ (ap (λ (zs : List Settings). get_or zs t.zone (settings_of no_zone)) s.settings ∙ sym (get_or_map settings_of d.zones t.zone no_zone))
 
-  layers_same : (t : Task) → (zone_of b t).layers ≡ (zone_of d t).layers
-  unfolding zone_of
+  layers_same : (t : Task) → (task_zone b t).layers ≡ (task_zone d t).layers
+  unfolding task_zone
   layers_same t =
       get_or_map layers_of b.zones t.zone no_zone
       ∙ (ap (λ (zs : List ℕ). get_or zs t.zone (layers_of no_zone)) s.zone_layers ∙ sym (get_or_map layers_of d.zones t.zone no_zone))
@@ -117,8 +109,8 @@ module _ (b d : Board) (n : ℕ) (s : IsSameButPriority b d n) where
     has = subst (λ (m : ℕ). has_layer m t.layer ≡ true) (layers_same t) h.has;
   }
 
-  priority_same : (t : Task) → (t.zone ≡ n → ⊥) → (zone_of b t).priority ≡ (zone_of d t).priority
-  unfolding zone_of
+  priority_same : (t : Task) → (t.zone ≡ n → ⊥) → (task_zone b t).priority ≡ (task_zone d t).priority
+  unfolding task_zone
   priority_same t o = s.others t.zone o
 
   above_there : (t u : Task) → (t.zone ≡ n → ⊥) → (u.zone ≡ n → ⊥) → Outranks b t u → Outranks d t u
@@ -153,7 +145,7 @@ module _ (b d : Board) (n : ℕ) (s : IsSameButPriority b d n) (one : 1 ≤ d.ru
   where
     zone_as : (i m : ℕ) → IsRankOf b i (task_at d m) → zone_at b i ≡ zone_at d m
     unfolding zone_at
-    zone_as i m r = ap (λ (t : Task). settings_of (zone_of b t)) r.is ∙ settings_same b d n s (task_at d m)
+    zone_as i m r = ap (λ (t : Task). settings_of (task_zone b t)) r.is ∙ settings_same b d n s (task_at d m)
 
     layer_as : (i m : ℕ) → IsRankOf b i (task_at d m) → layer_at b i ≡ layer_at d m
     layer_as i m r = ap (λ (t : Task). t.layer) r.is
@@ -173,31 +165,8 @@ module _ (b d : Board) (n : ℕ) (s : IsSameButPriority b d n) (one : 1 ≤ d.ru
     to_back : (P : Settings → ℕ → Type 0) → P (zone_at d k) (layer_at d k) → P (zone_at b (old k)) (layer_at b (old k))
     to_back P h = subst (λ (l : ℕ). P (zone_at b (old k)) l) (sym (layer_as (old k) k own)) (subst (λ (z : Settings). P z (layer_at d k)) (sym (zone_as (old k) k own)) h)
 
-    positive : 1 ≤ item_need d (zone_at d k) 0
-    positive = omega (arith, one)
-
-    positive_before : 1 ≤ item_need b (zone_at d k) 0
-    positive_before = subst (λ (r : Rules). 1 ≤ units (max (max (zone_at d k).clearance 0) r.floor)) (sym s.rules) positive
-
-    items_there : (m : Need) → AreNear m.need (around (zone_at d k).outline) m.oct → IsOneOf m (item_needs b (zone_at d k) (layer_at d k)) → IsOneOf m (item_needs d (zone_at d k) (layer_at d k))
-    items_there m w i =
-        items_to b d [] [] s.rules (among_same unplaced b.tracks d.tracks s.tracks) (among_same unplaced_via b.vias d.vias s.vias) s.pads s.edges
-        (zone_at d k) (layer_at d k) (around (zone_at d k).outline) (λ t i. absurd (none t i)) (λ v i. absurd (none v i)) m w i
-
-    items_back : (m : Need) → AreNear m.need (around (zone_at d k).outline) m.oct → IsOneOf m (item_needs d (zone_at d k) (layer_at d k)) → IsOneOf m (item_needs b (zone_at d k) (layer_at d k))
-    items_back m w i =
-        items_to d b [] [] (sym s.rules) (among_same unplaced d.tracks b.tracks (sym s.tracks)) (among_same unplaced_via d.vias b.vias (sym s.vias)) (sym s.pads) (sym s.edges)
-        (zone_at d k) (layer_at d k) (around (zone_at d k).outline) (λ t i. absurd (none t i)) (λ v i. absurd (none v i)) m w i
-
-    anchors_there : (c : Copper) (o : Bounds) → IsTouching c o → ((p : PlanePoint) → In o p → In (around (zone_at d k).outline) p) → IsOneOf c (anchors_of b (zone_at d k) (layer_at d k)) → IsOneOf c (anchors_of d (zone_at d k) (layer_at d k))
-    anchors_there c o t inside i =
-        anchors_to b d [] [] s.rules (among_same unplaced b.tracks d.tracks s.tracks) (among_same unplaced_via b.vias d.vias s.vias) s.pads s.edges
-        (zone_at d k) (layer_at d k) (around (zone_at d k).outline) (λ t i. absurd (none t i)) (λ v i. absurd (none v i)) positive_before c o t inside i
-
-    anchors_back : (c : Copper) (o : Bounds) → IsTouching c o → ((p : PlanePoint) → In o p → In (around (zone_at d k).outline) p) → IsOneOf c (anchors_of d (zone_at d k) (layer_at d k)) → IsOneOf c (anchors_of b (zone_at d k) (layer_at d k))
-    anchors_back c o t inside i =
-        anchors_to d b [] [] (sym s.rules) (among_same unplaced d.tracks b.tracks (sym s.tracks)) (among_same unplaced_via d.vias b.vias (sym s.vias)) (sym s.pads) (sym s.edges)
-        (zone_at d k) (layer_at d k) (around (zone_at d k).outline) (λ t i. absurd (none t i)) (λ v i. absurd (none v i)) positive c o t inside i
+    items : HasSameItems b d
+    items = record { rules = s.rules; tracks = s.tracks; vias = s.vias; pads = s.pads; edges = s.edges }
 
     -- what reaches the task on the one board is of another zone, and reaches it on the other
     to_reach : (j : ℕ) → IsReaching b j (old k)
@@ -236,12 +205,12 @@ module _ (b d : Board) (n : ℕ) (s : IsSameButPriority b d n) (one : 1 ≤ d.ru
     untouched_by = record {
       like = record { zone = zone_as (old k) k own; layer = layer_as (old k) k own; pads = s.pads; areas = s.areas; edges = s.edges };
       items = λ m w. (
-        λ i. items_there m w (to_there (λ (z : Settings) (l : ℕ). IsOneOf m (item_needs b z l)) i),
-        λ i. to_back (λ (z : Settings) (l : ℕ). IsOneOf m (item_needs b z l)) (items_back m w i),
+        λ i. items_there b d items one (zone_at d k) (layer_at d k) m w (to_there (λ (z : Settings) (l : ℕ). IsOneOf m (item_needs b z l)) i),
+        λ i. to_back (λ (z : Settings) (l : ℕ). IsOneOf m (item_needs b z l)) (items_back b d items one (zone_at d k) (layer_at d k) m w i),
       );
       anchors = λ c o t inside. (
-        λ i. anchors_there c o t inside (to_there (λ (z : Settings) (l : ℕ). IsOneOf c (anchors_of b z l)) i),
-        λ i. to_back (λ (z : Settings) (l : ℕ). IsOneOf c (anchors_of b z l)) (anchors_back c o t inside i),
+        λ i. anchors_there b d items one (zone_at d k) (layer_at d k) c o t inside (to_there (λ (z : Settings) (l : ℕ). IsOneOf c (anchors_of b z l)) i),
+        λ i. to_back (λ (z : Settings) (l : ℕ). IsOneOf c (anchors_of b z l)) (anchors_back b d items one (zone_at d k) (layer_at d k) c o t inside i),
       );
       reach_to = to_reach;
       reach_from = from_reach;

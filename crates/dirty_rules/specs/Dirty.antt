@@ -14,8 +14,8 @@ use Rattle.fill_rules.specs.Edits.{unplaced, unplaced_via, IsTrackDirtying, IsVi
 use Rattle.fill_rules.specs.Dirty.{unlined, IsDirty, Spreads}
 use Rattle.edit_language.specs.declared.edit.Edit.{Edit}
 use Rattle.edit_language.specs.declared.edit.Edit.TheVariants as edits
-use Rattle.edit_language.specs.Stamps.{stamp_of}
-use Rattle.edit_language.specs.Stamps as stamps
+use Rattle.board_language.specs.Stamps.{stamp_of}
+use Rattle.board_text.specs.declared.stamped.Stamped.TheVariants as stamps
 use Rattle.edit_language.specs.Edited.{IsAcceptedEdit, IsEdited, IsBoardOf}
 
 -- ---- ranks: an edit may give a task another rank, and never takes the task away
@@ -34,15 +34,15 @@ pub record IsReachingTask (b : Board) (s t : Task) : Type 0 where
   pub reaching : IsReaching b rank below
 
 -- on this board the one reaches the other, or is reached by it
-abbrev pub AreInReach : Board → Task → Task → Type 0
-AreInReach b s t = IsReachingTask b s t ⊎ IsReachingTask b t s
+abbrev pub AreTasksInReach : Board → Task → Task → Type 0
+AreTasksInReach b s t = IsReachingTask b s t ⊎ IsReachingTask b t s
 
 -- ---- what an edit dirties directly, on the board before it and the board after it
 
 -- A new priority or clearance of the zone of number n dirties each task of the zone, and each task that on one of the two
 -- boards reaches a task of the zone or is reached by one.
 unfoldable pub IsZoneDirtying : Board → Board → ℕ → Task → Type 0
-IsZoneDirtying b d n t = (t.zone ≡ n) ⊎ ((s : Task) × (s.zone ≡ n) × (AreInReach b s t ⊎ AreInReach d s t))
+IsZoneDirtying b d n t = (t.zone ≡ n) ⊎ ((s : Task) × (s.zone ≡ n) × (AreTasksInReach b s t ⊎ AreTasksInReach d s t))
 
 -- the track that has the stamp in the board of this text
 pub record HasTrack (text : List ℕ) (rules : Rules) (stamp : List ℕ) (track : Track) : Type 0 where
@@ -74,6 +74,7 @@ IsDirtyingAsTrack text rules stamp d k = (track : Track) × HasTrack text rules 
 abbrev pub IsDirtyingAsVia : List ℕ → Rules → List ℕ → Board → ℕ → Type 0
 IsDirtyingAsVia text rules stamp d k = (via : Via) × HasVia text rules stamp via × IsViaDirtying d k via
 
+-- A change of a zone dirties the zone's tasks and those in reach of them, before or after.
 abbrev pub IsDirtyingAsZone : List ℕ → List ℕ → Board → Board → ℕ → Type 0
 IsDirtyingAsZone text stamp b d k = (n : ℕ) × HasZone text stamp n × IsZoneDirtying b d n (task_at d k)
 
@@ -114,6 +115,7 @@ IsInDirtySet text list rules last changed k =
 
 -- ---- a new priority
 
+-- the layers of a zone, as a set
 abbrev pub layers_of : Zone → ℕ
 layers_of z = z.layers
 

@@ -8,13 +8,14 @@ use Rattle.text_splices.proofs.Splices.{one_law}
 use Rattle.board_language.specs.Reading.{IsAccepted, IsOffence}
 use Rattle.board_language.specs.declared.offence.OffenceKind.{OffenceKind}
 use Rattle.edit_language.specs.declared.edit.Edit.{Edit}
-use Rattle.edit_language.specs.declared.edit.Offence.{Offence}
+use Rattle.board_language.specs.declared.offence.Offence.{Offence}
 use Rattle.edit_language.specs.declared.edit.EditRefusal.{EditRefusal}
 use Rattle.edit_language.specs.declared.edit.EditRefusal.TheVariants.{NoStamp, WrongKind, StampTaken, Breaks}
-use Rattle.edit_language.specs.Edited.{refusal_in, splice_in, IsPut, IsAcceptedEdit, IsStampRefused, IsBreaking, IsRefused, IsEdited, IsRefusedEdit}
+use Rattle.edit_language.specs.Edited.{refusal_in, splice_in, IsPut, IsAcceptedEdit, IsStampRefused, IsBreaking, IsEditRefused, IsEdited, IsRefusedEdit}
 use Rattle.edit_language.specs.FoldLaws.{SpliceTextLaw, OneEditLaw, OneFoldLaw, IndexLaw}
-use Rattle.edit_language.proofs.Places.{compared}
-use Rattle.edit_language.proofs.Offences.{one_root, one_offence, no_offence}
+use Rattle.board_language.proofs.Places.{compared}
+use Rattle.edit_language.proofs.OneRoot.{one_root}
+use Rattle.board_language.proofs.OneOffence.{one_offence, no_offence}
 
 -- the new text by the edit's splice
 abbrev IsSpliceIn : List ℕ → Edit → List ℕ → Item → Type 0
@@ -68,8 +69,8 @@ data Why (text : List ℕ) (edit : Edit) (refusal : EditRefusal) : Type 0 where
   Stamp : IsStampRefused text edit refusal → Why text edit refusal
   Break : (o : Offence) → refusal ≡ Breaks o → IsBreaking text edit o → Why text edit refusal
 
-why : (text : List ℕ) (edit : Edit) (refusal : EditRefusal) → IsRefused text edit refusal → Why text edit refusal
-unfolding IsRefused
+why : (text : List ℕ) (edit : Edit) (refusal : EditRefusal) → IsEditRefused text edit refusal → Why text edit refusal
+unfolding IsEditRefused
 why text edit NoStamp r = Stamp r
 why text edit WrongKind r = Stamp r
 why text edit StampTaken r = Stamp r
@@ -81,14 +82,14 @@ same_why text edit refusal other (Stamp a) (Break o e b) = absurd (put_no_stamp 
 same_why text edit refusal other (Break o e a) (Stamp b) = absurd (put_no_stamp text edit a.new other a.put b)
 same_why text edit refusal other (Break o e a) (Break u f b) = e ∙ ap Breaks (same_break text edit o u a b) ∙ sym f
 
-pub same_refusal : (text : List ℕ) (edit : Edit) (refusal other : EditRefusal) → IsRefused text edit refusal → IsRefused text edit other → refusal ≡ other
+pub same_refusal : (text : List ℕ) (edit : Edit) (refusal other : EditRefusal) → IsEditRefused text edit refusal → IsEditRefused text edit other → refusal ≡ other
 same_refusal text edit refusal other a b = same_why text edit refusal other (why text edit refusal a) (why text edit other b)
 
 no_why : (text : List ℕ) (edit : Edit) (new : List ℕ) (refusal : EditRefusal) → IsAcceptedEdit text edit new → Why text edit refusal → ⊥
 no_why text edit new refusal a (Stamp b) = put_no_stamp text edit new refusal a.put b
 no_why text edit new refusal a (Break o e b) = accepted_no_break text edit new o a b
 
-pub not_both : (text : List ℕ) (edit : Edit) (new : List ℕ) (refusal : EditRefusal) → IsAcceptedEdit text edit new → IsRefused text edit refusal → ⊥
+pub not_both : (text : List ℕ) (edit : Edit) (new : List ℕ) (refusal : EditRefusal) → IsAcceptedEdit text edit new → IsEditRefused text edit refusal → ⊥
 not_both text edit new refusal a b = no_why text edit new refusal a (why text edit refusal b)
 
 pub one_edit : OneEditLaw
@@ -119,7 +120,7 @@ midway text (b ∷ before) edit after new h =
     record { mid = m.mid; front = (h.0, h.1, m.front); next = m.next; accepted = m.accepted }
 
 no_refusal : (text : List ℕ) (before : List Edit) (edit : Edit) (after : List Edit) (new so_far : List ℕ) (refusal : EditRefusal)
-    → IsEdited text (before ++ edit ∷ after) new → IsEdited text before so_far → IsRefused so_far edit refusal → ⊥
+    → IsEdited text (before ++ edit ∷ after) new → IsEdited text before so_far → IsEditRefused so_far edit refusal → ⊥
 no_refusal text before edit after new so_far refusal h g r =
     let m = midway text before edit after new h in
     let e : m.mid ≡ so_far = same_edited text before m.mid so_far m.front g in
@@ -135,7 +136,7 @@ same_fold text list index place refusal other a b =
     elim (compared a.before a.after b.before b.after a.edit b.edit (sym a.stands ∙ b.stands)) [
       | inl s ↦
           let e : a.so_far ≡ b.so_far = same_edited text b.before a.so_far b.so_far (subst (λ l. IsEdited text l a.so_far) s.front a.accepted) b.accepted in
-          let r : IsRefused b.so_far b.edit refusal = subst (λ (x : Edit). IsRefused b.so_far x refusal) s.item (subst (λ t. IsRefused t a.edit refusal) e a.refused) in
+          let r : IsEditRefused b.so_far b.edit refusal = subst (λ (x : Edit). IsEditRefused b.so_far x refusal) s.item (subst (λ t. IsEditRefused t a.edit refusal) e a.refused) in
           (a.index_is ∙ ap (λ l. length l + 1) s.front ∙ sym b.index_is, same_refusal b.so_far b.edit refusal other r b.refused)
       | inr (inl w) ↦ absurd (no_refusal text a.before a.edit w.rest b.so_far a.so_far refusal (subst (λ l. IsEdited text l b.so_far) w.is b.accepted) a.accepted a.refused)
       | inr (inr w) ↦ absurd (no_refusal text b.before b.edit w.rest a.so_far b.so_far other (subst (λ l. IsEdited text l a.so_far) w.is a.accepted) b.accepted b.refused)

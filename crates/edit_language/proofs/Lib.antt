@@ -1,7 +1,6 @@
 pub mod Pieces
 pub mod Scripts
-pub mod Places
-pub mod Offences
+pub mod OneRoot
 pub mod Fold
 pub mod Stamps
 pub mod Values

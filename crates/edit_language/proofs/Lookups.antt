@@ -8,13 +8,14 @@ use Rattle.sexpr_text.specs.Items.{Item, items_of, children_of, is_headed}
 use Rattle.sexpr_text.specs.Trees.{IsRoot}
 use Rattle.sexpr_text.specs.declared.NodeKind.{NodeKind}
 use Rattle.sexpr_text.specs.declared.NodeKind.TheVariants as kinds
-use Rattle.board_fields.specs.Lists.{is_list, is_list_kind, lists_of}
-use Rattle.board_language.specs.Fields.{list_of, is_text}
-use Rattle.board_language.specs.Things.{Placed, Site, Root, OnBoard, InFootprint, Thing, FootprintZone, FootprintDrawing, Other, thing_of, of_footprint, in_footprint, with_own, items_of_board}
-use Rattle.board_language.specs.Things as things
+use Rattle.board_text.specs.Lists.{is_list, is_list_kind, lists_of}
+use Rattle.board_text.specs.Fields.{list_of, is_text}
+use Rattle.board_text.specs.Things.{Placed, Site, Root, OnBoard, InFootprint, Thing, FootprintZone, FootprintDrawing, Other, thing_of, of_footprint, in_footprint, with_own, items_of_board}
+use Rattle.board_text.specs.Things as things
 use Rattle.board_language.specs.Offences.{stamp_as, stamp_of_placed}
-use Rattle.board_language.specs.Reading.{context_of}
-use Rattle.edit_language.specs.Stamps.{Stamped, has_stamp, bearer_in, bearer_of, stamp_of}
+use Rattle.board_text.specs.Items.{context_of}
+use Rattle.board_text.specs.declared.stamped.Stamped.{Stamped}
+use Rattle.board_language.specs.Stamps.{has_stamp, bearer_in, bearer_of, stamp_of}
 use Rattle.edit_language.proofs.Stamps.{found, one_of_middle, bearer}
 use Rattle.edit_language.proofs.Standing.{IsListKind, IsListIn, in_list, headed_kind, board_list}
 

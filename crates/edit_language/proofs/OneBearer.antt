@@ -12,91 +12,38 @@ use Rattle.sexpr_text.specs.Items.{Item}
 use Rattle.outline_slab.specs.declared.error.OutlineFault.{OutlineFault}
 use Rattle.board_language.specs.declared.offence.OffenceKind.{OffenceKind}
 use Rattle.board_language.specs.declared.offence.OffenceKind.TheVariants as kinds
-use Rattle.board_language.specs.Fields.{is_text}
-use Rattle.board_language.specs.Layers.{is_among, has_unknown}
-use Rattle.board_language.specs.Things.{Placed, Thing, thing_of, items_of_board}
-use Rattle.board_language.specs.Things as things
-use Rattle.board_language.specs.Items.{Context, size_of, net_of, is_unknown_net}
+use Rattle.board_text.specs.Fields.{is_text}
+use Rattle.board_text.specs.Layers.{is_among, has_unknown}
+use Rattle.board_text.specs.Things.{Placed, Thing, thing_of, items_of_board}
+use Rattle.board_text.specs.Things as things
+use Rattle.board_text.specs.Items.{Context, size_of, net_of, is_unknown_net, has_bad_size, context_of}
 use Rattle.board_language.specs.Tracks.{track_layer, via_layer, track_fault, via_fault}
 use Rattle.board_language.specs.Zones.{is_read_zone, is_read_area}
 use Rattle.board_language.specs.Zones as zones
 use Rattle.board_language.specs.Counts.{is_one_too_many}
-use Rattle.board_language.specs.Offences.{when, number, first_kind, has_bad_size, track_lacks, via_lacks, has_teardrop, is_hatched, is_smoothed, has_other_mode, has_two_outlines, has_arc, outline_lacks, zone_lacks, zone_is_bad, is_long_outline, bad_outline, stamp_as, stamp_of_placed, stamps_among, is_stamped_among, track_kind, via_kind, zone_kind, area_kind, stamp_kind, kind_as, kind_with, IsKindOf}
-use Rattle.board_language.specs.Reading.{context_of, AreSound, IsAccepted}
+use Rattle.board_language.specs.Offences.{stamp_as, stamp_of_placed, stamps_among, is_stamped_among, track_kind, track_kinds, via_kind, via_kinds, zone_kind, zone_kinds, area_kind, area_kinds, stamp_kind, kind_as, kind_with, IsKindOf}
+use Rattle.board_language.specs.Reading.{AreSound, IsAccepted}
 use Rattle.edit_language.specs.StampLaws.{OneBearerLaw}
-use Rattle.edit_language.proofs.Places.{compared}
+use Rattle.board_language.proofs.NoneOffends.{some_at}
+use Rattle.board_language.proofs.Places.{compared}
 
 -- ---- kinds
 
-none_or : (a b : Option OffenceKind) → option_or a b ≡ None → (a ≡ None) × (b ≡ None)
-none_or None b e = (refl, e)
-none_or (Some k) b e = absurd (none-some k (sym e))
-
-all_none : (xs : List (Option OffenceKind)) → first_kind xs ≡ None → (i : ℕ) → get_or xs i None ≡ None
-all_none [] e i = refl
-all_none (x ∷ xs) e zero = (none_or x (first_kind xs) e).0
-all_none (x ∷ xs) e (suc i) = all_none xs (none_or x (first_kind xs) e).1 i
-
 track_double : (c : Context) (item : Item) (many : Bool) → track_kind c item true many ≡ None → ⊥
 unfolding track_kind
-track_double c item many e =
-    none-some kinds.DoubleStamp (sym (all_none (
-    when kinds.MissingPart (track_lacks c.bytes item)
-    ∷ number (track_fault c.bytes item)
-    ∷ when kinds.BadSize (has_bad_size c.bytes (codes "width") item)
-    ∷ when kinds.UnknownLayer (not (is_among c.copper (track_layer c.bytes item)))
-    ∷ when kinds.UnknownNet (is_unknown_net c (net_of c.bytes item))
-    ∷ when kinds.DoubleStamp true
-    ∷ when kinds.TooMany many
-    ∷ []) e 5))
+track_double c item many e = some_at 5 (track_kinds c item true many) kinds.DoubleStamp refl e
 
 via_double : (c : Context) (item : Item) (many : Bool) → via_kind c item true many ≡ None → ⊥
 unfolding via_kind
-via_double c item many e =
-    none-some kinds.DoubleStamp (sym (all_none (
-    when kinds.MissingPart (via_lacks c.bytes item)
-    ∷ number (via_fault c.bytes item)
-    ∷ when kinds.BadSize (has_bad_size c.bytes (codes "size") item)
-    ∷ when kinds.UnknownLayer (not (is_among c.copper (via_layer c.bytes 0 item) && is_among c.copper (via_layer c.bytes 1 item)))
-    ∷ when kinds.UnknownNet (is_unknown_net c (net_of c.bytes item))
-    ∷ when kinds.DoubleStamp true
-    ∷ when kinds.TooMany many
-    ∷ []) e 5))
+via_double c item many e = some_at 5 (via_kinds c item true many) kinds.DoubleStamp refl e
 
 zone_double : (c : Context) (zone : Item) (outline : Option OutlineFault) (many : Bool) → zone_kind c zone outline true many ≡ None → ⊥
 unfolding zone_kind
-zone_double c zone outline many e =
-    none-some kinds.DoubleStamp (sym (all_none (
-    when kinds.Teardrop (has_teardrop c.bytes zone)
-    ∷ when kinds.HatchFill (is_hatched c.bytes zone)
-    ∷ when kinds.Smoothing (is_smoothed c.bytes zone)
-    ∷ when kinds.IslandArea (has_other_mode c.bytes zone)
-    ∷ when kinds.ManyOutlines (has_two_outlines c.bytes zone)
-    ∷ when kinds.PolygonArc (has_arc c.bytes zone)
-    ∷ when kinds.MissingPart (zone_lacks c.bytes zone)
-    ∷ number (zones.zone_fault c.bytes zone)
-    ∷ when kinds.BadSize (zone_is_bad c.bytes zone)
-    ∷ when kinds.Thin (nat_lt (size_of (zones.thickness_in c.bytes zone)) 1000)
-    ∷ when kinds.UnknownLayer (has_unknown c.bytes c.copper (zones.layer_list c.bytes zone))
-    ∷ when kinds.UnknownNet (is_unknown_net c (net_of c.bytes zone))
-    ∷ when kinds.DoubleStamp true
-    ∷ bad_outline outline
-    ∷ when kinds.TooMany (many || is_long_outline c.bytes zone)
-    ∷ []) e 12))
+zone_double c zone outline many e = some_at 12 (zone_kinds c zone outline true many) kinds.DoubleStamp refl e
 
 area_double : (c : Context) (zone : Item) (outline : Option OutlineFault) (many : Bool) → area_kind c zone outline true many ≡ None → ⊥
 unfolding area_kind
-area_double c zone outline many e =
-    none-some kinds.DoubleStamp (sym (all_none (
-    when kinds.ManyOutlines (has_two_outlines c.bytes zone)
-    ∷ when kinds.PolygonArc (has_arc c.bytes zone)
-    ∷ when kinds.MissingPart (outline_lacks c.bytes zone)
-    ∷ number (zones.corners_fault c.bytes zone)
-    ∷ when kinds.UnknownLayer (has_unknown c.bytes c.copper (zones.layer_list c.bytes zone))
-    ∷ when kinds.DoubleStamp true
-    ∷ bad_outline outline
-    ∷ when kinds.TooMany (many || is_long_outline c.bytes zone)
-    ∷ []) e 5))
+area_double c zone outline many e = some_at 5 (area_kinds c zone outline true many) kinds.DoubleStamp refl e
 
 -- of a zone or rule area that is read, and of one that isn't
 zone_by : (c : Context) (item : Item) (outline : Option OutlineFault) (many read : Bool)

@@ -5,7 +5,7 @@ use Rattle.edit_language.specs.declared.edit.Edit.{Edit}
 use Rattle.edit_language.specs.declared.edit.EditKind.{EditKind}
 use Rattle.edit_language.specs.Lines.{Line, lines_of}
 use Rattle.edit_language.specs.Forms.{fault_of}
-use Rattle.edit_language.specs.Scripts.{edit_of, AreSound, AreEdits, IsFirstFault, Script, Edits, Fault, or_fault, before_others, script_from, script_of}
+use Rattle.edit_language.specs.Scripts.{edit_of, AreLinesSound, AreEdits, IsFirstFault, Script, Edits, Fault, or_fault, before_others, script_from, script_of}
 use Rattle.edit_language.specs.Laws.{EditsLaw, FaultLaw, SomeScriptLaw, OneScriptLaw}
 
 -- no line is faulty behind so many edits
@@ -25,10 +25,10 @@ sound_from n (line ∷ lines) h = (
   sound_from (suc n) lines (λ before after other e. ap (λ k. fault_of k other) (omega arith) ∙ h (line ∷ before) after other (ap (λ k. line ∷ k) e)),
 )
 
-to_sound : (lines : List Line) → SoundFrom 0 lines → AreSound lines
+to_sound : (lines : List Line) → SoundFrom 0 lines → AreLinesSound lines
 to_sound lines s before after line e = ap (λ k. fault_of k line) (omega arith) ∙ sound_at 0 before after line (subst (SoundFrom 0) e s)
 
-of_sound : (lines : List Line) → AreSound lines → SoundFrom 0 lines
+of_sound : (lines : List Line) → AreLinesSound lines → SoundFrom 0 lines
 of_sound lines h = sound_from 0 lines (λ before after line e. ap (λ k. fault_of k line) (omega arith) ∙ h before after line e)
 
 -- ---- values of scripts

@@ -10,17 +10,17 @@ use Rattle.sexpr_text.specs.Grammar.Forest.{Nil, Group}
 use Rattle.sexpr_text.specs.Items.{Item}
 use Rattle.sexpr_text.specs.Trees.{IsRoot}
 use Rattle.sexpr_text.specs.declared.NodeKind.TheVariants as kinds
-use Rattle.board_language.specs.Fields.{list_of}
-use Rattle.board_language.specs.Items.{tail_of}
-use Rattle.board_language.specs.Things.{Placed}
+use Rattle.board_text.specs.Fields.{list_of}
+use Rattle.board_text.specs.Items.{tail_of}
+use Rattle.board_text.specs.Things.{Placed}
 use Rattle.board_language.specs.Zones.{span_or_none, spans_of}
 use Rattle.edit_language.specs.declared.edit.Edit.{Edit}
 use Rattle.edit_language.specs.declared.edit.Edit.TheVariants.{Track, Via, Drop, Priority, Clearance}
 use Rattle.edit_language.specs.declared.edit.EditRefusal.TheVariants.{NoStamp}
-use Rattle.edit_language.specs.Scripts.{IsPlace, IsSize, IsWholeNumber, IsFormed}
-use Rattle.edit_language.specs.Stamps.{stamp_of, bearer_of}
-use Rattle.edit_language.specs.Splices.{Splice, list_text, point_list, length_list, whole_list, quoted, track_line, via_line, priority_by, priority_splice, clearance_by, clearance_splice, splice_of}
-use Rattle.edit_language.specs.Edited.{stamp_in, if_no_copper, if_no_zone, item_or, splice_in, stamp_refusal}
+use Rattle.edit_language.specs.Scripts.{IsPointInRange, IsSize, IsWholeNumber, IsFormed}
+use Rattle.board_language.specs.Stamps.{stamp_of, bearer_of}
+use Rattle.edit_language.specs.Splices.{Splice, list_text, point_list, length_list, whole_list, between_quotes, track_line, via_line, priority_by, priority_splice, clearance_by, clearance_splice, splice_of}
+use Rattle.edit_language.specs.Edited.{edit_stamp, if_no_copper, if_no_zone, item_or, splice_in, stamp_refusal}
 use Rattle.edit_language.specs.SpellLaws.{SpellLaw}
 use Rattle.edit_language.proofs.Steady.{IsSteady, IsPlaceIn, IsNamed, steady_both, steady_nothing, steady_space, steady_line_end, steady_name, steady_quoted, steady_list, spliced_spells}
 use Rattle.edit_language.proofs.Standing.{IsListIn, board_list, close_place, open_place, end_place, solid_place}
@@ -29,7 +29,7 @@ use Rattle.edit_language.proofs.Named.{mm_named, small_named, decimal_named, is_
 
 -- ---- lists that are put in
 
-steady_point : (room : ℕ) (name : List ℕ) (p : Point) → room < 63 → IsNamed name → IsPlace p → IsSteady (suc room) (point_list name p)
+steady_point : (room : ℕ) (name : List ℕ) (p : Point) → room < 63 → IsNamed name → IsPointInRange p → IsSteady (suc room) (point_list name p)
 steady_point room name p low n h =
     steady_list room name (mm_of p.x ∷ mm_of p.y ∷ []) low n (steady_name room (mm_of p.x) (mm_named p.x h.0), (steady_name room (mm_of p.y) (mm_named p.y h.1), tt))
 
@@ -61,7 +61,7 @@ steady_track from to width layer net stamp f =
         (
           steady_length 61 (codes "width") width (omega arith) refl f.2,
           (
-            steady_list 61 (codes "layer") (quoted layer ∷ []) (omega arith) refl (steady_quoted 61 layer (is_named layer f.3), tt),
+            steady_list 61 (codes "layer") (between_quotes layer ∷ []) (omega arith) refl (steady_quoted 61 layer (is_named layer f.3), tt),
             (
               steady_whole 61 (codes "net") net (omega arith) refl f.4,
               (
@@ -85,7 +85,7 @@ steady_via at size drill top bottom net stamp f =
         (
           steady_length 61 (codes "drill") drill (omega arith) refl f.2,
           (
-            steady_list 61 (codes "layers") (quoted top ∷ quoted bottom ∷ []) (omega arith) refl (steady_quoted 61 top (is_named top f.3), (steady_quoted 61 bottom (is_named bottom f.4), tt)),
+            steady_list 61 (codes "layers") (between_quotes top ∷ between_quotes bottom ∷ []) (omega arith) refl (steady_quoted 61 top (is_named top f.3), (steady_quoted 61 bottom (is_named bottom f.4), tt)),
             (
               steady_whole 61 (codes "net") net (omega arith) refl f.5,
               (
@@ -160,7 +160,7 @@ named_item text stamp root r h =
     let b = borne text stamp root h in
     subst (λ (o : Option Placed). IsListIn text 63 (item_or root o)) (sym b.1) (bearer_list text stamp root b.0 r b.1)
 
-spells : (text new : List ℕ) (root : Item) (edit : Edit) → IsRoot text root → IsFormed edit → stamp_refusal edit (stamp_of text root (stamp_in edit)) ≡ None
+spells : (text new : List ℕ) (root : Item) (edit : Edit) → IsRoot text root → IsFormed edit → stamp_refusal edit (stamp_of text root (edit_stamp edit)) ≡ None
     → IsDone text (splice_in text root edit) new → Spells new
 unfolding splice_in splice_of stamp_refusal priority_splice clearance_splice spans_of IsFormed
 spells text new root (Track from to width layer net stamp) r f h s = before_close text new _ root r (steady_track from to width layer net stamp f) s

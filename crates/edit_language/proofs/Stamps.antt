@@ -7,13 +7,15 @@ use Rattle.std.proofs.lemmas.List.Elements.{filter_map-append}
 use Rattle.std.proofs.Math.Seq.{get_or-append_seam}
 use Rattle.classes.specs.Classes.{IsOneOf}
 use Rattle.sexpr_text.specs.Items.{Item}
-use Rattle.board_language.specs.Things.{Placed, Thing, thing_of, items_of_board}
-use Rattle.board_language.specs.Things as things
-use Rattle.board_language.specs.Items.{Context}
+use Rattle.board_text.specs.Things.{Placed, Thing, thing_of, items_of_board}
+use Rattle.board_text.specs.Things as things
+use Rattle.board_text.specs.Items.{Context, context_of}
 use Rattle.board_language.specs.Tracks.{track_of, via_of}
 use Rattle.board_language.specs.Zones.{is_read_zone, zone_of}
-use Rattle.board_language.specs.Reading.{context_of, board_of, all_of, track_from, via_from, zone_from}
-use Rattle.edit_language.specs.Stamps.{Stamped, Track, Via, Zone, Unread, has_stamp, bearer_in, before_bearer, stamped_as, stamped_behind, stamped_in, stamp_of, bearer_of}
+use Rattle.board_language.specs.Reading.{board_of, all_of, track_from, via_from, zone_from}
+use Rattle.board_text.specs.declared.stamped.Stamped.{Stamped}
+use Rattle.board_text.specs.declared.stamped.Stamped.TheVariants.{Track, Via, Zone, Other}
+use Rattle.board_language.specs.Stamps.{has_stamp, bearer_in, before_bearer, stamped_as, stamped_behind, stamped_in, stamp_of, bearer_of}
 use Rattle.edit_language.specs.StampLaws.{TrackStampLaw, ViaStampLaw, ZoneStampLaw, BearerLaw, NoBearerLaw}
 
 -- ---- finding
@@ -90,21 +92,21 @@ abbrev number_in : Stamped → ℕ
 number_in (Track n) = n
 number_in (Via n) = n
 number_in (Zone n) = n
-number_in Unread = 0
+number_in Other = 0
 
-zone_only : (b : Bool) (n : ℕ) → IsZoneStamp (cond b (Zone n) Unread) → b ≡ true
+zone_only : (b : Bool) (n : ℕ) → IsZoneStamp (cond b (Zone n) Other) → b ≡ true
 zone_only true n h = refl
 zone_only false n h = absurd h
 
-zone_number : (b : Bool) (n m : ℕ) → cond b (Zone n) Unread ≡ Zone m → m ≡ n
+zone_number : (b : Bool) (n m : ℕ) → cond b (Zone n) Other ≡ Zone m → m ≡ n
 zone_number true n m e = ap number_in (sym e)
 zone_number false n m e = absurd (subst IsZoneStamp (sym e) tt)
 
-no_track : (b : Bool) (n : ℕ) → IsTrackStamp (cond b (Zone n) Unread) → ⊥
+no_track : (b : Bool) (n : ℕ) → IsTrackStamp (cond b (Zone n) Other) → ⊥
 no_track true n h = h
 no_track false n h = h
 
-no_via : (b : Bool) (n : ℕ) → IsViaStamp (cond b (Zone n) Unread) → ⊥
+no_via : (b : Bool) (n : ℕ) → IsViaStamp (cond b (Zone n) Other) → ⊥
 no_via true n h = h
 no_via false n h = h
 

@@ -12,14 +12,14 @@ use Rattle.sexpr_text.specs.Items.{Item, items_of, is_headed}
 use Rattle.sexpr_text.specs.Trees.{IsRoot}
 use Rattle.sexpr_text.specs.declared.NodeKind.{NodeKind}
 use Rattle.sexpr_text.specs.declared.NodeKind.TheVariants as kinds
-use Rattle.sexpr_text.specs.Spot.{Spot, step, spot}
-use Rattle.sexpr_text.specs.Spot.Spot.{Before, Inside, Quoted, Behind, Lost}
+use Rattle.sexpr_text.specs.Spot.{TextSpot, step, text_spot}
+use Rattle.sexpr_text.specs.Spot.TextSpot.{Before, Inside, Quoted, Behind, Lost}
 use Rattle.sexpr_text.specs.Cut.{Cut, lead, cut_step, follows, cuts}
 use Rattle.sexpr_text.specs.Cut.Cut.{Full, Next, Broken}
 use Rattle.sexpr_text.proofs.Spots.{next, stays, other_than, space_before, space_inside, space_behind, white_inside, word_over, string_over, opened_some, closed_some, items_over}
 use Rattle.sexpr_text.proofs.Cuts.{lead1}
 use Rattle.sexpr_text.proofs.CutLaws.{cuts-append, broken_on, utf8_whole}
-use Rattle.board_language.specs.Items.{solid_end}
+use Rattle.board_text.specs.Items.{solid_end}
 use Rattle.edit_language.proofs.Steady.{IsPlaceIn}
 
 -- ---- between characters
@@ -95,21 +95,21 @@ clean_next text n c f l e small =
 pub record IsListIn (text : List ℕ) (room : ℕ) (item : Item) : Type 0 where
   pub bracket : IsBracket text room item.from item.to
   pub inner : Items text (room - 1) (item.from + 1) (item.to - 1) item.inner
-  pub before : spot text item.from ≡ Inside room
-  pub begun : spot text (item.from + 1) ≡ Inside (room - 1)
-  pub ended : spot text (item.to - 1) ≡ Inside (room - 1)
-  pub after : spot text item.to ≡ Inside room
+  pub before : text_spot text item.from ≡ Inside room
+  pub begun : text_spot text (item.from + 1) ≡ Inside (room - 1)
+  pub ended : text_spot text (item.to - 1) ≡ Inside (room - 1)
+  pub after : text_spot text item.to ≡ Inside room
 
 abbrev list_item : ℕ → ℕ → Forest → Item
 list_item from to inner = record { kind = kinds.List; from = from; to = to; inner = inner }
 
 group : (text : List ℕ) (room from to : ℕ) (inner : Forest) → room < 64 → IsBracket text room from to → Items text (room - 1) (from + 1) (to - 1) inner
-    → spot text from ≡ Inside room → IsListIn text room (list_item from to inner)
+    → text_spot text from ≡ Inside room → IsListIn text room (list_item from to inner)
 group text room from to inner low b h s =
-    let o : spot text (from + 1) ≡ Inside (room - 1) = next text from (from + 1) refl ∙ ap (λ t. step t (slice_index text from)) s ∙ ap (step (Inside room)) b.opening ∙ opened_some room b.deep in
-    let i : spot text (to - 1) ≡ Inside (room - 1) = items_over text (room - 1) (from + 1) (to - 1) inner (omega (arith, low)) h o in
+    let o : text_spot text (from + 1) ≡ Inside (room - 1) = next text from (from + 1) refl ∙ ap (λ t. step t (slice_index text from)) s ∙ ap (step (Inside room)) b.opening ∙ opened_some room b.deep in
+    let i : text_spot text (to - 1) ≡ Inside (room - 1) = items_over text (room - 1) (from + 1) (to - 1) inner (omega (arith, low)) h o in
     let g : (room == 64) ≡ false = grind (arith, low) in
-    let c : spot text to ≡ Inside room =
+    let c : text_spot text to ≡ Inside room =
     next text (to - 1) to (omega (arith, b.order)) ∙ ap (λ t. step t (slice_index text (to - 1))) i ∙ ap (step (Inside (room - 1))) b.closing
     ∙ closed_some room b.deep low ∙ ap (λ k. cond k Behind (Inside room)) g in
     record { bracket = b; inner = h; before = s; begun = o; ended = i; after = c }
@@ -119,7 +119,7 @@ IsListKind kinds.List = Unit {0}
 IsListKind kinds.Word = ⊥
 IsListKind kinds.Text = ⊥
 
-pub in_list : (text : List ℕ) (room at end : ℕ) (f : Forest) → room < 64 → Items text room at end f → spot text at ≡ Inside room
+pub in_list : (text : List ℕ) (room at end : ℕ) (f : Forest) → room < 64 → Items text room at end f → text_spot text at ≡ Inside room
     → (item : Item) → IsOneOf item (items_of f) → IsListKind item.kind → IsListIn text room item
 unfolding IsOneOf
 in_list text room at end Nil low h s item m k = absurd m
@@ -149,20 +149,20 @@ headed_kind text name (Group from to inner rest) item (inr m) h = headed_kind te
 pub record IsBoardList (text : List ℕ) (root : Item) : Type 0 where
   pub bracket : IsBracket text 64 root.from root.to
   pub inner : Items text 63 (root.from + 1) (root.to - 1) root.inner
-  pub begun : spot text (root.from + 1) ≡ Inside 63
-  pub ended : spot text (root.to - 1) ≡ Inside 63
+  pub begun : text_spot text (root.from + 1) ≡ Inside 63
+  pub ended : text_spot text (root.to - 1) ≡ Inside 63
 
 pub board_list : (text : List ℕ) (root : Item) → IsRoot text root → IsBoardList text root
 board_list text root r =
     let h : Items text 64 0 (length text) (Group root.from root.to root.inner Nil) = r.spelt.items in
-    let b : spot text root.from ≡ Before = stays is_space Before space_before text 0 root.from root.from (omega arith) h.0.each refl in
-    let o : spot text (root.from + 1) ≡ Inside 63 = next text root.from (root.from + 1) refl ∙ ap (λ t. step t (slice_index text root.from)) b ∙ ap (step Before) h.1.opening in
+    let b : text_spot text root.from ≡ Before = stays is_space Before space_before text 0 root.from root.from (omega arith) h.0.each refl in
+    let o : text_spot text (root.from + 1) ≡ Inside 63 = next text root.from (root.from + 1) refl ∙ ap (λ t. step t (slice_index text root.from)) b ∙ ap (step Before) h.1.opening in
     record { bracket = h.1; inner = h.2; begun = o; ended = items_over text 63 (root.from + 1) (root.to - 1) root.inner (omega arith) h.2 o }
 
 -- ---- places
 
 -- before a list's closing parenthesis
-pub close_place : (text : List ℕ) (room deep from to : ℕ) → IsUtf8 text → IsBracket text deep from to → spot text (to - 1) ≡ Inside room → IsPlaceIn text room (to - 1)
+pub close_place : (text : List ℕ) (room deep from to : ℕ) → IsUtf8 text → IsBracket text deep from to → text_spot text (to - 1) ≡ Inside room → IsPlaceIn text room (to - 1)
 close_place text room deep from to u b s =
     record { within = omega (arith, b.within); spot = s; cut = clean text (to - 1) 41 u (omega (arith, b.within, b.order)) b.closing (omega arith) }
 
@@ -185,7 +185,7 @@ end_place text room item u l =
 
 -- ---- tails
 
-abbrev IsInside : Spot → Type 0
+abbrev IsInside : TextSpot → Type 0
 IsInside (Inside room) = Unit {0}
 IsInside Before = ⊥
 IsInside (Quoted room escaped) = ⊥
@@ -193,7 +193,7 @@ IsInside Behind = ⊥
 IsInside Lost = ⊥
 
 -- white space comes into a list from nowhere else
-space_back : (s : Spot) (room c : ℕ) → is_space c ≡ true → step s c ≡ Inside room → s ≡ Inside room
+space_back : (s : TextSpot) (room c : ℕ) → is_space c ≡ true → step s c ≡ Inside room → s ≡ Inside room
 space_back Before room c h e = absurd (subst IsInside (sym (sym (space_before c h) ∙ e)) tt)
 space_back (Inside other) room c h e = sym (space_inside other c h) ∙ e
 space_back (Quoted other true) room c h e = absurd (subst IsInside (sym e) tt)
@@ -211,7 +211,7 @@ tail_step text room n false u e p ih = p
 tail_step text room n true u e p ih =
     ih (record {
       within = omega (arith, p.within);
-      spot = space_back (spot text n) room (slice_index text n) e p.spot;
+      spot = space_back (text_spot text n) room (slice_index text n) e p.spot;
       cut = clean text n (slice_index text n) u (omega (arith, p.within)) refl (space_small (slice_index text n) e);
     })
 

@@ -7,8 +7,8 @@ use Rattle.std.proofs.Math.Seq.{take-append_seam}
 use Rattle.std.specs.Str.{IsUtf8}
 use Rattle.text_splices.specs.Splice.{IsSplice}
 use Rattle.sexpr_text.specs.Grammar.{Forest, Spelt, is_word}
-use Rattle.sexpr_text.specs.Spot.{Spot, step, spot, closed}
-use Rattle.sexpr_text.specs.Spot.Spot.{Inside, Quoted, Behind}
+use Rattle.sexpr_text.specs.Spot.{TextSpot, step, text_spot, closed}
+use Rattle.sexpr_text.specs.Spot.TextSpot.{Inside, Quoted, Behind}
 use Rattle.sexpr_text.specs.Cut.{lead, cuts}
 use Rattle.sexpr_text.specs.Cut.Cut.{Full}
 use Rattle.sexpr_text.specs.Faults.{IsUtf8Front}
@@ -19,14 +19,14 @@ use Rattle.sexpr_text.proofs.CutLaws.{cuts-append, utf8_whole}
 use Rattle.sexpr_text.proofs.CutExact.{utf8_front}
 use Rattle.sexpr_text.proofs.Fronts.{behind_tree}
 use Rattle.edit_language.specs.Forms.{is_name_byte}
-use Rattle.edit_language.specs.Splices.{values_text, list_text, quoted}
+use Rattle.edit_language.specs.Splices.{values_text, list_text, between_quotes}
 
 -- read inside a list with so much room, the bytes lead back there, and they are whole characters
 pub record IsSteady (room : ℕ) (bytes : List ℕ) : Type 0 where
   pub spot : run (Inside room) bytes ≡ Inside room
   pub cut : cuts Full bytes ≡ Full
 
-run-append : (xs ys : List ℕ) (s : Spot) → run s (xs ++ ys) ≡ run (run s xs) ys
+run-append : (xs ys : List ℕ) (s : TextSpot) → run s (xs ++ ys) ≡ run (run s xs) ys
 unfolding run
 run-append [] ys s = refl
 run-append (x ∷ xs) ys s = run-append xs ys (step s x)
@@ -112,7 +112,7 @@ quote_cut : cuts Full (34 ∷ []) ≡ Full
 unfolding cuts
 quote_cut = refl
 
-pub steady_quoted : (room : ℕ) (bytes : List ℕ) → IsNamed bytes → IsSteady room (quoted bytes)
+pub steady_quoted : (room : ℕ) (bytes : List ℕ) → IsNamed bytes → IsSteady room (between_quotes bytes)
 unfolding run cuts
 steady_quoted room bytes h =
     record { spot = in_quotes room bytes h; cut = cuts-append bytes (34 ∷ []) Full ∙ ap (λ s. cuts s (34 ∷ [])) (steady_name room bytes h).cut }
@@ -148,11 +148,11 @@ steady_list room name values low n v =
 -- a place in a list with so much room, outside strings and between characters
 pub record IsPlaceIn (text : List ℕ) (room n : ℕ) : Type 0 where
   pub within : n ≤ length text
-  pub spot : spot text n ≡ Inside room
+  pub spot : text_spot text n ≡ Inside room
   pub cut : cuts Full (take n text) ≡ Full
 
-front_spot : (text front behind : List ℕ) (n : ℕ) → text ≡ front ++ behind → length front ≡ n → spot text n ≡ spot front (length front)
-front_spot text front behind n e l = ap (λ t. spot t n) e ∙ ap (spot (front ++ behind)) (sym l) ∙ spot_local front behind (length front) (omega arith)
+front_spot : (text front behind : List ℕ) (n : ℕ) → text ≡ front ++ behind → length front ≡ n → text_spot text n ≡ text_spot front (length front)
+front_spot text front behind n e l = ap (λ t. text_spot t n) e ∙ ap (text_spot (front ++ behind)) (sym l) ∙ spot_local front behind (length front) (omega arith)
 
 front_cut : (text front behind : List ℕ) (n : ℕ) → text ≡ front ++ behind → length front ≡ n → take n text ≡ front
 front_cut text front behind n e l = ap (take n) e ∙ ap (λ k. take k (front ++ behind)) (sym l) ∙ take-append_seam front behind
@@ -163,12 +163,12 @@ spliced_spells text new put room from to tree s a b p h =
     let whole : text ≡ (h.front ++ h.out) ++ h.tail = h.text_is ∙ sym (append_assoc h.front h.out h.tail) in
     let fresh : new ≡ (h.front ++ put) ++ h.tail = h.new_is ∙ sym (append_assoc h.front put h.tail) in
     let l : length (h.front ++ h.out) ≡ to = length-append h.front h.out ∙ ap (λ k. k + length h.out) h.from_is ∙ h.to_is in
-    let start : spot h.front (length h.front) ≡ Inside room = sym (front_spot text h.front (h.out ++ h.tail) from h.text_is h.from_is) ∙ a.spot in
-    let end : spot (h.front ++ h.out) (length (h.front ++ h.out)) ≡ Inside room = sym (front_spot text (h.front ++ h.out) h.tail to whole l) ∙ b.spot in
+    let start : text_spot h.front (length h.front) ≡ Inside room = sym (front_spot text h.front (h.out ++ h.tail) from h.text_is h.from_is) ∙ a.spot in
+    let end : text_spot (h.front ++ h.out) (length (h.front ++ h.out)) ≡ Inside room = sym (front_spot text (h.front ++ h.out) h.tail to whole l) ∙ b.spot in
     let last : run (Inside room) h.tail ≡ Behind =
-    ap (λ q. run q h.tail) (sym end) ∙ sym (spot_run h.tail (h.front ++ h.out)) ∙ ap (λ t. spot t (length t)) (sym whole) ∙ spelt_behind text tree s in
-    let mid : spot (h.front ++ put) (length (h.front ++ put)) ≡ Inside room = spot_run put h.front ∙ ap (λ q. run q put) start ∙ p.spot in
-    let done : spot new (length new) ≡ Behind = ap (λ t. spot t (length t)) fresh ∙ spot_run h.tail (h.front ++ put) ∙ ap (λ q. run q h.tail) mid ∙ last in
+    ap (λ q. run q h.tail) (sym end) ∙ sym (spot_run h.tail (h.front ++ h.out)) ∙ ap (λ t. text_spot t (length t)) (sym whole) ∙ spelt_behind text tree s in
+    let mid : text_spot (h.front ++ put) (length (h.front ++ put)) ≡ Inside room = spot_run put h.front ∙ ap (λ q. run q put) start ∙ p.spot in
+    let done : text_spot new (length new) ≡ Behind = ap (λ t. text_spot t (length t)) fresh ∙ spot_run h.tail (h.front ++ put) ∙ ap (λ q. run q h.tail) mid ∙ last in
     let first : cuts Full h.front ≡ Full = ap (cuts Full) (sym (front_cut text h.front (h.out ++ h.tail) from h.text_is h.from_is)) ∙ a.cut in
     let second : cuts Full (h.front ++ h.out) ≡ Full = ap (cuts Full) (sym (front_cut text (h.front ++ h.out) h.tail to whole l)) ∙ b.cut in
     let old : cuts Full text ≡ cuts Full h.tail = ap (cuts Full) whole ∙ cuts-append (h.front ++ h.out) h.tail Full ∙ ap (λ q. cuts q h.tail) second in

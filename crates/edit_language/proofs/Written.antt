@@ -9,14 +9,14 @@ use Rattle.grid_num.specs.Spelling.{number}
 use Rattle.grid_num.specs.Length.{IsInRange, nanometres, with_sign}
 use Rattle.grid_num.specs.Parts.{whole_of, fraction_of}
 use Rattle.grid_num.specs.declared.read.NumFault.TheVariants.{NotANumber, TooFine, OutOfRange}
-use Rattle.board_language.specs.Numbers.{is_decimal, is_negative, are_zeros, or_zero, length_fault, length_of}
-use Rattle.board_language.specs.Items.{size_of}
+use Rattle.board_text.specs.Numbers.{is_decimal, is_negative, are_zeros, or_zero, length_fault, length_of}
+use Rattle.board_text.specs.Items.{size_of}
 use Rattle.edit_language.specs.declared.edit.Edit.TheVariants.{Drop, Priority, Clearance}
 use Rattle.edit_language.specs.declared.edit.EditKind.{EditKind}
 use Rattle.edit_language.specs.declared.edit.EditKind.TheVariants.{BadWord, TooFewWords, TooManyWords}
 use Rattle.edit_language.specs.Lines.{Word, Line}
-use Rattle.edit_language.specs.Forms.{Form, Length, Size, Whole, Name, is_whole, has_form, forms_of, fault_for, first_misfit, fault_by, words_fault}
-use Rattle.edit_language.specs.Scripts.{track_of, via_of, word_at, whole_at, size_at, edit_of, IsSize, IsWholeNumber, IsFormed}
+use Rattle.edit_language.specs.Forms.{Form, Length, Size, Whole, Name, is_whole_word, has_form, forms_of, fault_for, first_misfit, fault_by, words_fault}
+use Rattle.edit_language.specs.Scripts.{track_edit, via_edit, word_at, whole_at, size_at, edit_of, IsSize, IsWholeNumber, IsFormed}
 use Rattle.edit_language.specs.Laws.{WrittenLaw}
 
 -- ---- lengths
@@ -59,7 +59,7 @@ each forms words e i o =
     let s = sized (length words) (length forms) (nat_lt (length words) (length forms)) (nat_lt (length forms) (length words)) (first_misfit forms words) refl refl e in
     fits forms words s.0 s.1 i o
 
-whole_small : (word : Word) → is_whole word ≡ true → IsWholeNumber (number word)
+whole_small : (word : Word) → is_whole_word word ≡ true → IsWholeNumber (number word)
 whole_small word e = ltb-true (number word) (2 ^ 32) (and_parts _ (nat_lt (number word) (2 ^ 32)) e).1
 
 -- ---- lengths that are read
@@ -90,7 +90,7 @@ size text = length_bounded text (λ z. IsSize (size_of z)) (omega arith) (small 
 -- ---- the edits
 
 track : (word : Word) (words : List Word)
-    → fault_by (Some (Length ∷ Length ∷ Length ∷ Length ∷ Size ∷ Name ∷ Whole ∷ Name ∷ [])) words ≡ None → IsFormed (track_of (word ∷ words))
+    → fault_by (Some (Length ∷ Length ∷ Length ∷ Length ∷ Size ∷ Name ∷ Whole ∷ Name ∷ [])) words ≡ None → IsFormed (track_edit (word ∷ words))
 unfolding IsFormed
 track word words e =
     let f = each (Length ∷ Length ∷ Length ∷ Length ∷ Size ∷ Name ∷ Whole ∷ Name ∷ []) words e in (
@@ -103,7 +103,7 @@ track word words e =
     )
 
 via : (word : Word) (words : List Word)
-    → fault_by (Some (Length ∷ Length ∷ Size ∷ Size ∷ Name ∷ Name ∷ Whole ∷ Name ∷ [])) words ≡ None → IsFormed (via_of (word ∷ words))
+    → fault_by (Some (Length ∷ Length ∷ Size ∷ Size ∷ Name ∷ Name ∷ Whole ∷ Name ∷ [])) words ≡ None → IsFormed (via_edit (word ∷ words))
 unfolding IsFormed
 via word words e =
     let f = each (Length ∷ Length ∷ Size ∷ Size ∷ Name ∷ Name ∷ Whole ∷ Name ∷ []) words e in (
@@ -139,8 +139,8 @@ by_first : (word : Word) (words : List Word) (t v d p c : Bool)
     else (if d then Some (Name ∷ [])
     else (if p then Some (Name ∷ Whole ∷ []) else (if c then Some (Name ∷ Size ∷ []) else None))))) words ≡ None
     → IsFormed
-    (if t then track_of (word ∷ words)
-    else (if v then via_of (word ∷ words)
+    (if t then track_edit (word ∷ words)
+    else (if v then via_edit (word ∷ words)
     else (if d then Drop (word_at 0 (word ∷ words))
     else (if p then Priority (word_at 0 (word ∷ words)) (whole_at 1 (word ∷ words)) else Clearance (word_at 0 (word ∷ words)) (size_at 1 (word ∷ words))))))
 by_first word words true v d p c e = track word words e

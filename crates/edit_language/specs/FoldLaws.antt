@@ -4,24 +4,13 @@ use Rattle.sexpr_text.specs.Items.{Item}
 use Rattle.sexpr_text.specs.Trees.{IsRoot}
 use Rattle.text_splices.specs.Splice.{IsSplice}
 use Rattle.board_language.specs.Reading.{IsAccepted, IsOffence}
-use Rattle.board_language.specs.declared.offence.OffenceKind.{OffenceKind}
 use Rattle.edit_language.specs.declared.edit.Edit.{Edit}
 use Rattle.edit_language.specs.declared.edit.EditRefusal.{EditRefusal}
-use Rattle.edit_language.specs.Edited.{splice_in, refusal_in, IsAcceptedEdit, IsRefused, IsEdited, IsRefusedEdit}
+use Rattle.edit_language.specs.Edited.{splice_in, refusal_in, IsAcceptedEdit, IsEditRefused, IsEdited, IsRefusedEdit}
 
 -- a text is that of one list
 abbrev pub OneRootLaw : Type 0
 OneRootLaw = (text : List ℕ) (root other : Item) → IsRoot text root → IsRoot text other → root ≡ other
-
--- a board has at most one first offence
-abbrev pub OneOffenceLaw : Type 0
-OneOffenceLaw =
-    (text : List ℕ) (root : Item) (at place line other : ℕ) (kind last : OffenceKind) → IsOffence text root at line kind
-    → IsOffence text root place other last → (at ≡ place) × (line ≡ other) × (kind ≡ last)
-
--- and an accepted one has none
-abbrev pub NoOffenceLaw : Type 0
-NoOffenceLaw = (text : List ℕ) (root : Item) (at line : ℕ) (kind : OffenceKind) → IsAccepted text root → IsOffence text root at line kind → ⊥
 
 -- the text that an accepted edit makes is the old one with the edit's splice
 abbrev pub SpliceTextLaw : Type 0
@@ -34,8 +23,8 @@ abbrev pub OneEditLaw : Type 0
 OneEditLaw =
     (text : List ℕ) (edit : Edit) (new last : List ℕ) (refusal other : EditRefusal)
     → (IsAcceptedEdit text edit new → IsAcceptedEdit text edit last → new ≡ last)
-    × (IsAcceptedEdit text edit new → IsRefused text edit refusal → ⊥)
-    × (IsRefused text edit refusal → IsRefused text edit other → refusal ≡ other)
+    × (IsAcceptedEdit text edit new → IsEditRefused text edit refusal → ⊥)
+    × (IsEditRefused text edit refusal → IsEditRefused text edit other → refusal ≡ other)
 
 -- and so does a list of edits, at one edit of it
 abbrev pub OneFoldLaw : Type 0
@@ -49,5 +38,5 @@ OneFoldLaw =
 abbrev pub IndexLaw : Type 0
 IndexLaw =
     (text so_far : List ℕ) (first : Edit) (second : Edit) (refusal : EditRefusal)
-    → (IsRefused text first refusal → IsRefusedEdit text (first ∷ second ∷ []) 1 refusal)
-    × (IsAcceptedEdit text first so_far → IsRefused so_far second refusal → IsRefusedEdit text (first ∷ second ∷ []) 2 refusal)
+    → (IsEditRefused text first refusal → IsRefusedEdit text (first ∷ second ∷ []) 1 refusal)
+    × (IsAcceptedEdit text first so_far → IsEditRefused so_far second refusal → IsRefusedEdit text (first ∷ second ∷ []) 2 refusal)

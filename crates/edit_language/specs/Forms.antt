@@ -8,8 +8,8 @@ use Rattle.std.specs.List.{list_all}
 use Rattle.std.specs.Char.{is_ascii_digit, is_ascii_alphanumeric}
 use Rattle.std.specs.Str.{bytes_eq}
 use Rattle.grid_num.specs.Spelling.{number}
-use Rattle.board_language.specs.Numbers.{length_fault, length_of}
-use Rattle.board_language.specs.Items.{is_below_zero}
+use Rattle.board_text.specs.Numbers.{length_fault, length_of}
+use Rattle.board_text.specs.Items.{is_below_zero}
 use Rattle.edit_language.specs.declared.edit.EditKind.{EditKind}
 use Rattle.edit_language.specs.declared.edit.EditKind.TheVariants.{TooLong, BadWord, TooFewWords, TooManyWords, BadNumber}
 use Rattle.edit_language.specs.Lines.{Word, Line}
@@ -27,26 +27,28 @@ pub data Form : Type 0 where
 
 -- ---- the form of a word
 
+-- a number of millimetres of at most six places, up to 500 mm to either side
 abbrev pub is_length : Word → Bool
 is_length word = is_none (length_fault word)
 
 -- below 2 ^ 32, in at most ten digits
-abbrev pub is_whole : Word → Bool
-is_whole word = (list_all is_ascii_digit word && (not (length word == 0) && nat_le (length word) 10)) && nat_lt (number word) (2 ^ 32)
+abbrev pub is_whole_word : Word → Bool
+is_whole_word word = (list_all is_ascii_digit word && (not (length word == 0) && nat_le (length word) 10)) && nat_lt (number word) (2 ^ 32)
 
 -- a letter, a digit, a point, a minus or an underscore
 abbrev pub is_name_byte : ℕ → Bool
 is_name_byte byte = is_ascii_alphanumeric byte || (byte == 46 || (byte == 45 || byte == 95))
 
 -- 1 to 64 such bytes
-abbrev pub is_name : Word → Bool
-is_name word = list_all is_name_byte word && (not (length word == 0) && nat_le (length word) 64)
+abbrev pub is_script_name : Word → Bool
+is_script_name word = list_all is_name_byte word && (not (length word == 0) && nat_le (length word) 64)
 
+-- whether a word has the form that is wanted of it
 abbrev pub has_form : Form → Word → Bool
 has_form Length word = is_length word
 has_form Size word = is_length word && not (is_below_zero (length_of word))
-has_form Whole word = is_whole word
-has_form Name word = is_name word
+has_form Whole word = is_whole_word word
+has_form Name word = is_script_name word
 
 -- ---- the forms of a line
 
@@ -74,12 +76,14 @@ first_misfit [] words = None
 first_misfit (form ∷ forms) [] = None
 first_misfit (form ∷ forms) (word ∷ words) = if has_form form word then first_misfit forms words else Some (fault_for form)
 
+-- the number of words is tried before their forms; a first word that no edit begins with has no forms
 abbrev pub fault_by : Option (List Form) → List Word → Option EditKind
 fault_by None words = Some BadWord
 fault_by (Some forms) words =
     if nat_lt (length words) (length forms) then Some TooFewWords
     else (if nat_lt (length forms) (length words) then Some TooManyWords else first_misfit forms words)
 
+-- what is wrong with the words of a line, if something is
 abbrev pub words_fault : List Word → Option EditKind
 words_fault [] = Some BadWord
 words_fault (word ∷ words) = fault_by (forms_of word) words

@@ -28,6 +28,7 @@ WordEndLaw = (front behind : List ℕ) (byte : ℕ) → is_blank byte ≡ true �
 abbrev pub WordLaw : Type 0
 WordLaw = (word : Word) → 1 ≤ length word → HasNone is_blank word → words_of word ≡ word ∷ []
 
+-- an empty line has no words
 abbrev pub NoWordLaw : Type 0
 NoWordLaw = words_of [] ≡ []
 

@@ -1,7 +1,6 @@
 pub mod Lines
 pub mod Forms
 pub mod Scripts
-pub mod Stamps
 pub mod Splices
 pub mod Edited
 pub mod Laws

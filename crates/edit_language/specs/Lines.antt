@@ -2,6 +2,7 @@
 use Rattle.std.specs.Prelude.{ℕ, suc, Bool, true, false, not, ◌||◌, ◌==◌, cond, List, [], ◌∷◌, filter}
 use Rattle.grid_num.specs.Parts.{begins_with}
 
+-- a word is its bytes
 abbrev pub Word : Type 0
 Word = List ℕ
 
@@ -24,10 +25,12 @@ is_line_feed byte = byte == 10
 abbrev pub is_blank : ℕ → Bool
 is_blank byte = byte == 32 || (byte == 9 || byte == 13)
 
+-- whether there is a byte at all
 abbrev pub has_bytes : List ℕ → Bool
 has_bytes [] = false
 has_bytes (byte ∷ bytes) = true
 
+-- the words of a line: what stands between its blanks
 unfoldable pub words_of : List ℕ → List Word
 words_of line = filter has_bytes (pieces is_blank line)
 
@@ -42,10 +45,10 @@ pub record Line : Type 0 where
   pub words : List Word
 
 -- the lines, numbered from n on
-abbrev pub numbered : ℕ → List (List ℕ) → List Line
-numbered n [] = []
-numbered n (line ∷ lines) = record { number = n; words = words_of line } ∷ numbered (suc n) lines
+abbrev pub numbered_lines : ℕ → List (List ℕ) → List Line
+numbered_lines n [] = []
+numbered_lines n (line ∷ lines) = record { number = n; words = words_of line } ∷ numbered_lines (suc n) lines
 
 -- the lines of a script that aren't passed over, with their numbers among all lines, from 1
 unfoldable pub lines_of : List ℕ → List Line
-lines_of script = filter (λ line. not (is_passed_over line.words)) (numbered 1 (pieces is_line_feed script))
+lines_of script = filter (λ line. not (is_passed_over line.words)) (numbered_lines 1 (pieces is_line_feed script))

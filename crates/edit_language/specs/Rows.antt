@@ -6,17 +6,19 @@ use Rattle.board_language.specs.declared.board.ZoneSpans.{ZoneSpans}
 use Rattle.edit_language.specs.declared.edit.Edit.TheVariants.{Track, Via, Drop, Priority, Clearance}
 use Rattle.edit_language.specs.declared.edit.EditKind.TheVariants.{TooLong, BadWord, TooFewWords, TooManyWords, BadNumber}
 use Rattle.edit_language.specs.declared.edit.EditRefusal.TheVariants.{NoStamp, WrongKind, StampTaken}
-use Rattle.edit_language.specs.Stamps as stamps
+use Rattle.board_text.specs.declared.stamped.Stamped.TheVariants as stamps
 use Rattle.edit_language.specs.Edited.{stamp_refusal}
 use Rattle.edit_language.specs.Forms.{fault_of}
 use Rattle.edit_language.specs.Scripts.{Edits, Fault, script_of}
 use Rattle.edit_language.specs.Splices.{Splice, take_out, put_before_close, track_line, via_line, priority_splice, clearance_splice}
 
+-- a place in nanometres
 abbrev pub at : ℕ → ℕ → Point
 at x y = record { x = pos x; y = pos y }
 
 -- ---- scripts
 
+-- what these scripts say
 pub record ScriptRows : Type 0 where
   pub track : script_of (codes "track 8 5 9 5 0.25 F.Cu 3 t9") ≡ Edits (Track (at 8000000 5000000) (at 9000000 5000000) 250000 (codes "F.Cu") 3 (codes "t9") ∷ [])
   pub via : script_of (codes "via -0.000001 5 0.6 .3 F.Cu B.Cu 1 v1\n")
@@ -50,33 +52,37 @@ pub record LengthRows : Type 0 where
 abbrev pub zone_with : Option Span → Option Span → Option Span → ℕ → ZoneSpans
 zone_with priority connect clearance tail = record { priority = priority; connect = connect; clearance = clearance; tail = tail; fills = [] }
 
-abbrev pub place : ℕ → ℕ → Span
-place from to = record { from = from; to = to }
+-- from one byte to before another
+abbrev pub span_at : ℕ → ℕ → Span
+span_at from to = record { from = from; to = to }
 
+-- these bytes in place of those of a span
 abbrev pub piece : ℕ → ℕ → List ℕ → Splice
 piece from to put = record { from = from; to = to; put = put }
 
+-- what these edits put into a text, and where
 pub record SpliceRows : Type 0 where
-  pub track : put_before_close (place 0 902) (track_line (at 8000000 5000000) (at 9000000 5000000) 250000 (codes "F.Cu") 3 (codes "t9"))
+  pub track : put_before_close (span_at 0 902) (track_line (at 8000000 5000000) (at 9000000 5000000) 250000 (codes "F.Cu") 3 (codes "t9"))
       ≡ piece 901 901 (codes "  (segment (start 8 5) (end 9 5) (width 0.25) (layer \"F.Cu\") (net 3) (tstamp t9))\n")
-  pub via : put_before_close (place 0 902) (via_line (at 1000000 5000000) 600000 300000 (codes "F.Cu") (codes "B.Cu") 1 (codes "v1"))
+  pub via : put_before_close (span_at 0 902) (via_line (at 1000000 5000000) 600000 300000 (codes "F.Cu") (codes "B.Cu") 1 (codes "v1"))
       ≡ piece 901 901 (codes "  (via (at 1 5) (size 0.6) (drill 0.3) (layers \"F.Cu\" \"B.Cu\") (net 1) (tstamp v1))\n")
-  pub drop : take_out (place 820 899) ≡ piece 820 899 []
-  pub priority : priority_splice (zone_with (Some (place 300 312)) None None 500) 2 ≡ piece 300 312 (codes "(priority 2)")
+  pub drop : take_out (span_at 820 899) ≡ piece 820 899 []
+  pub priority : priority_splice (zone_with (Some (span_at 300 312)) None None 500) 2 ≡ piece 300 312 (codes "(priority 2)")
   pub new_priority : priority_splice (zone_with None None None 500) 2 ≡ piece 500 500 (codes " (priority 2)")
-  pub clearance : clearance_splice (zone_with None (Some (place 310 342)) (Some (place 324 341)) 500) 300000 ≡ piece 324 341 (codes "(clearance 0.3)")
+  pub clearance : clearance_splice (zone_with None (Some (span_at 310 342)) (Some (span_at 324 341)) 500) 300000 ≡ piece 324 341 (codes "(clearance 0.3)")
   -- (connect_pads yes) at 310: its closing parenthesis is the byte at 327
-  pub in_connect : clearance_splice (zone_with None (Some (place 310 328)) None 500) 300000 ≡ piece 327 327 (codes " (clearance 0.3)")
+  pub in_connect : clearance_splice (zone_with None (Some (span_at 310 328)) None 500) 300000 ≡ piece 327 327 (codes " (clearance 0.3)")
   pub with_connect : clearance_splice (zone_with None None None 500) 300000 ≡ piece 500 500 (codes " (connect_pads (clearance 0.3))")
 
 -- ---- refusals
 
+-- why these edits are refused for the thing with their stamp, or not
 pub record RefusalRows : Type 0 where
   pub nothing : stamp_refusal (Drop (codes "t9")) None ≡ Some NoStamp
   pub zone_dropped : stamp_refusal (Drop (codes "z1")) (Some (stamps.Zone 0)) ≡ Some WrongKind
   pub track_dropped : stamp_refusal (Drop (codes "t9")) (Some (stamps.Track 4)) ≡ None
   pub track_set : stamp_refusal (Priority (codes "t9") 2) (Some (stamps.Track 4)) ≡ Some WrongKind
-  pub area_set : stamp_refusal (Clearance (codes "a1") 300000) (Some stamps.Unread) ≡ Some WrongKind
+  pub area_set : stamp_refusal (Clearance (codes "a1") 300000) (Some stamps.Other) ≡ Some WrongKind
   pub zone_set : stamp_refusal (Clearance (codes "z1") 300000) (Some (stamps.Zone 0)) ≡ None
   pub taken : stamp_refusal (Track (at 8 5) (at 9 5) 250000 (codes "F.Cu") 3 (codes "z1")) (Some (stamps.Zone 0)) ≡ Some StampTaken
   pub free : stamp_refusal (Track (at 8 5) (at 9 5) 250000 (codes "F.Cu") 3 (codes "t9")) None ≡ None

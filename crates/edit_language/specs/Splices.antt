@@ -6,7 +6,7 @@ use Rattle.grid_num.specs.Written.{mm_of}
 use Rattle.sexpr_text.specs.Items.{Item}
 use Rattle.sexpr_text.specs.declared.Span.{Span}
 use Rattle.board_language.specs.declared.board.ZoneSpans.{ZoneSpans}
-use Rattle.board_language.specs.Items.{span_of}
+use Rattle.board_text.specs.Items.{span_of}
 use Rattle.board_language.specs.Zones.{spans_of}
 use Rattle.edit_language.specs.declared.edit.Edit.{Edit}
 use Rattle.edit_language.specs.declared.edit.Edit.TheVariants.{Track, Via, Drop, Priority, Clearance}
@@ -17,9 +17,11 @@ pub record Splice : Type 0 where
   pub to : ℕ
   pub put : List ℕ
 
+-- bytes go in at a place, and none come out
 abbrev pub put_at : ℕ → List ℕ → Splice
 put_at place bytes = record { from = place; to = place; put = bytes }
 
+-- bytes go in for those of a span
 abbrev pub put_for : Span → List ℕ → Splice
 put_for span bytes = record { from = span.from; to = span.to; put = bytes }
 
@@ -34,45 +36,52 @@ unfoldable pub values_text : List (List ℕ) → List ℕ
 values_text [] = []
 values_text (value ∷ values) = codes " " ++ (value ++ values_text values)
 
+-- a list by its head, with a space before each value
 unfoldable pub list_text : List ℕ → List (List ℕ) → List ℕ
 list_text name values = codes "(" ++ (name ++ (values_text values ++ codes ")"))
 
+-- a list of a point, in millimetres
 abbrev pub point_list : List ℕ → Point → List ℕ
 point_list name p = list_text name (mm_of p.x ∷ mm_of p.y ∷ [])
 
+-- a list of a length, in millimetres
 abbrev pub length_list : List ℕ → ℕ → List ℕ
 length_list name length = list_text name (mm_of (pos length) ∷ [])
 
+-- a list of a whole number
 abbrev pub whole_list : List ℕ → ℕ → List ℕ
 whole_list name number = list_text name (decimal number ∷ [])
 
-abbrev pub quoted : List ℕ → List ℕ
-quoted name = codes "\"" ++ (name ++ codes "\"")
+-- a name between quotes; names of the language have none inside
+abbrev pub between_quotes : List ℕ → List ℕ
+between_quotes name = codes "\"" ++ (name ++ codes "\"")
 
 -- ---- new tracks and vias
 
 -- a list on a line of its own
-abbrev pub line_text : List ℕ → List ℕ
-line_text list = codes "  " ++ (list ++ codes "\n")
+abbrev pub on_own_line : List ℕ → List ℕ
+on_own_line list = codes "  " ++ (list ++ codes "\n")
 
+-- the line of a new track
 unfoldable pub track_line : Point → Point → ℕ → List ℕ → ℕ → List ℕ → List ℕ
 track_line from to width layer net stamp =
-    line_text (list_text (codes "segment") (
+    on_own_line (list_text (codes "segment") (
     point_list (codes "start") from
     ∷ point_list (codes "end") to
     ∷ length_list (codes "width") width
-    ∷ list_text (codes "layer") (quoted layer ∷ [])
+    ∷ list_text (codes "layer") (between_quotes layer ∷ [])
     ∷ whole_list (codes "net") net
     ∷ list_text (codes "tstamp") (stamp ∷ [])
     ∷ []))
 
+-- the line of a new via
 unfoldable pub via_line : Point → ℕ → ℕ → List ℕ → List ℕ → ℕ → List ℕ → List ℕ
 via_line at size drill top bottom net stamp =
-    line_text (list_text (codes "via") (
+    on_own_line (list_text (codes "via") (
     point_list (codes "at") at
     ∷ length_list (codes "size") size
     ∷ length_list (codes "drill") drill
-    ∷ list_text (codes "layers") (quoted top ∷ quoted bottom ∷ [])
+    ∷ list_text (codes "layers") (between_quotes top ∷ between_quotes bottom ∷ [])
     ∷ whole_list (codes "net") net
     ∷ list_text (codes "tstamp") (stamp ∷ [])
     ∷ []))
@@ -83,11 +92,13 @@ put_before_close board line = put_at (close_of board) line
 
 -- ---- a track or via that is taken away
 
+-- the list goes, and nothing comes in its place
 abbrev pub take_out : Span → Splice
 take_out span = put_for span []
 
 -- ---- a zone's priority and clearance, by where its lists stand
 
+-- a list behind a space
 abbrev pub behind_space : List ℕ → List ℕ
 behind_space list = codes " " ++ list
 
@@ -96,6 +107,7 @@ abbrev pub priority_by : Option Span → ℕ → ℕ → Splice
 priority_by (Some list) tail value = put_for list (whole_list (codes "priority") value)
 priority_by None tail value = put_at tail (behind_space (whole_list (codes "priority") value))
 
+-- a new priority goes in for the old one, or behind the zone's last list
 unfoldable pub priority_splice : ZoneSpans → ℕ → Splice
 priority_splice zone value = priority_by zone.priority zone.tail value
 
@@ -106,6 +118,7 @@ clearance_by (Some list) connect tail value = put_for list (length_list (codes "
 clearance_by None (Some connect) tail value = put_at (close_of connect) (behind_space (length_list (codes "clearance") value))
 clearance_by None None tail value = put_at tail (behind_space (list_text (codes "connect_pads") (length_list (codes "clearance") value ∷ [])))
 
+-- a new clearance goes in for the old one, or into `connect_pads`, or behind the zone's last list in a new one
 unfoldable pub clearance_splice : ZoneSpans → ℕ → Splice
 clearance_splice zone value = clearance_by zone.clearance zone.connect zone.tail value
 

@@ -2,12 +2,14 @@
 use Rattle.std.specs.Prelude.{◌≡◌, ℕ, false, true, List, ◌∷◌, ◌++◌, slice_get, None, Some}
 use Rattle.classes.specs.Classes.{IsOneOf}
 use Rattle.sexpr_text.specs.Items.{Item}
-use Rattle.board_language.specs.Things.{Placed, items_of_board}
+use Rattle.board_text.specs.Things.{Placed, items_of_board}
 use Rattle.board_language.specs.Tracks.{track_of, via_of}
 use Rattle.board_language.specs.Zones.{zone_of}
 use Rattle.board_language.specs.declared.board.Rules.{Rules}
-use Rattle.board_language.specs.Reading.{context_of, board_of, IsAccepted}
-use Rattle.edit_language.specs.Stamps.{Track, Via, Zone, has_stamp, stamp_of, bearer_of}
+use Rattle.board_text.specs.Items.{context_of}
+use Rattle.board_language.specs.Reading.{board_of, IsAccepted}
+use Rattle.board_text.specs.declared.stamped.Stamped.TheVariants.{Track, Via, Zone}
+use Rattle.board_language.specs.Stamps.{has_stamp, stamp_of, bearer_of}
 
 -- a stamp of a track is that of the board's track of this number, which is read of the item that has the stamp
 abbrev pub TrackStampLaw : Type 0
@@ -15,11 +17,13 @@ TrackStampLaw =
     (text : List ℕ) (root : Item) (rules : Rules) (stamp : List ℕ) (n : ℕ) (p : Placed) → stamp_of text root stamp ≡ Some (Track n)
     → bearer_of text root stamp ≡ Some p → slice_get (board_of text root rules).tracks n ≡ Some (track_of (context_of text root) p.item)
 
+-- and so for a via
 abbrev pub ViaStampLaw : Type 0
 ViaStampLaw =
     (text : List ℕ) (root : Item) (rules : Rules) (stamp : List ℕ) (n : ℕ) (p : Placed) → stamp_of text root stamp ≡ Some (Via n)
     → bearer_of text root stamp ≡ Some p → slice_get (board_of text root rules).vias n ≡ Some (via_of (context_of text root) p.item)
 
+-- and for a copper zone
 abbrev pub ZoneStampLaw : Type 0
 ZoneStampLaw =
     (text : List ℕ) (root : Item) (rules : Rules) (stamp : List ℕ) (n : ℕ) (p : Placed) → stamp_of text root stamp ≡ Some (Zone n)

@@ -1,7 +1,6 @@
 // Edits of a board, what may be wrong in a script of them, and why one is refused. Lengths and places are in nanometres;
 // x grows to the right and y downward.
-use crate::Name;
-use board_language::OffenceKind;
+use board_language::{Name, Offence};
 use grid_num::Point;
 
 /// A change of one thing of a board, as a line of a script says it. A thing is named by its stamp.
@@ -62,14 +61,6 @@ pub enum EditKind {
 pub struct EditFault {
     pub line: u64,
     pub kind: EditKind,
-}
-
-/// What offends in a board: where the item stands, on which line, and what is wrong in it.
-#[derive(Clone, Copy, PartialEq, Eq, Debug)]
-pub struct Offence {
-    pub at: usize,
-    pub line: u64,
-    pub kind: OffenceKind,
 }
 
 /// Why an edit is refused. The refusals are tried in this order.

@@ -1,6 +1,7 @@
 // Laws of edits, for the layers above. Each is the contract of a function that does nothing.
 ghost use Rattle.edit_language.specs.Laws.{LineEndLaw, LineLaw, WordEndLaw, WordLaw, NoWordLaw, EditsLaw, FaultLaw, SomeScriptLaw, OneScriptLaw, WrittenLaw};
-ghost use Rattle.edit_language.specs.FoldLaws.{OneRootLaw, OneOffenceLaw, NoOffenceLaw, SpliceTextLaw, OneEditLaw, OneFoldLaw, IndexLaw};
+ghost use Rattle.edit_language.specs.FoldLaws.{OneRootLaw, SpliceTextLaw, OneEditLaw, OneFoldLaw, IndexLaw};
+ghost use Rattle.board_language.specs.Laws.{OneOffenceLaw, NoOffenceLaw};
 ghost use Rattle.edit_language.specs.Rows.{ScriptRows, LengthRows, SpliceRows, RefusalRows};
 ghost use Rattle.edit_language.specs.SpellLaws.{SpellLaw};
 ghost use Rattle.edit_language.specs.StampLaws.{TrackStampLaw, ViaStampLaw, ZoneStampLaw, BearerLaw, NoBearerLaw, OneBearerLaw};

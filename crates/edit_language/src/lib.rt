@@ -5,16 +5,13 @@
 
 mod edit;
 mod laws;
-mod name;
 mod splice;
-#[cfg(test)]
-mod tests;
 mod text;
 
-pub use edit::{Edit, EditFault, EditKind, EditRefusal, Offence};
+pub use board_language::{Name, Offence};
+pub use edit::{Edit, EditFault, EditKind, EditRefusal};
 pub use laws::{
     edited_law, line_law, offence_law, rows, script_law, spell_law, stamp_law, word_law,
     written_law,
 };
-pub use name::Name;
 pub use splice::{Splice, drop_copper, put_track, put_via, set_clearance, set_priority};

@@ -1,7 +1,7 @@
 // Which piece of a board's text an edit takes out, and what it puts in.
 ghost use Rattle.std.specs.Prelude.{◌≡◌, ◌<◌, ◌≤◌, None, length, IfOk, IfSome};
 ghost use Rattle.text_splices.specs.Splice.{IsSplice};
-ghost use Rattle.edit_language.specs.Scripts.{IsPlace, IsSize};
+ghost use Rattle.edit_language.specs.Scripts.{IsPointInRange, IsSize};
 ghost use Rattle.edit_language.specs.Splices.{put_for, put_at, put_before_close, take_out, track_line, via_line, priority_splice, clearance_splice};
 
 use crate::text::{connect_list, number_list, size_list, spaced, track_text, via_text};
@@ -103,8 +103,8 @@ pub fn put_track(
     stamp: &[u8],
 ) -> Result<Splice, Memory>
     requires board { 0 < board.to }
-    requires from { IsPlace from }
-    requires to { IsPlace to }
+    requires from { IsPointInRange from }
+    requires to { IsPointInRange to }
     requires width { IsSize width }
     ensures { IfOk result (λ s. s ≡ put_before_close board (track_line from to width layer.now net stamp.now)) }
 {
@@ -129,7 +129,7 @@ pub fn put_via(
     stamp: &[u8],
 ) -> Result<Splice, Memory>
     requires board { 0 < board.to }
-    requires at { IsPlace at }
+    requires at { IsPointInRange at }
     requires size { IsSize size }
     requires drill { IsSize drill }
     ensures { IfOk result (λ s. s ≡ put_before_close board (via_line at size drill top.now bottom.now net stamp.now)) }

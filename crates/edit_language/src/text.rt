@@ -3,8 +3,8 @@ ghost use Rattle.std.specs.Prelude.{◌≡◌, ◌≤◌, ◌++◌, ◌∷◌, [
 ghost use Rattle.std.specs.Fmt.{decimal};
 ghost use Rattle.grid_num.specs.Length.{IsInRange};
 ghost use Rattle.grid_num.specs.Written.{mm_of};
-ghost use Rattle.edit_language.specs.Scripts.{IsPlace, IsSize};
-ghost use Rattle.edit_language.specs.Splices.{list_text, point_list, length_list, whole_list, quoted, line_text, behind_space, track_line, via_line};
+ghost use Rattle.edit_language.specs.Scripts.{IsPointInRange, IsSize};
+ghost use Rattle.edit_language.specs.Splices.{list_text, point_list, length_list, whole_list, between_quotes, on_own_line, behind_space, track_line, via_line};
 
 use grid_num::{Memory, MmText, Nm, Point, write_mm};
 use itoa::Buffer;
@@ -56,7 +56,7 @@ pub fn size_list(alloc: Global, name: &[u8], nm: u32) -> Result<Vec<u8>, Memory>
 
 /// A list of the two places of a point.
 fn place_list(alloc: Global, name: &[u8], p: Point) -> Result<Vec<u8>, Memory>
-    requires { IsPlace p }
+    requires { IsPointInRange p }
     ensures { IfOk result (λ v. v.items ≡ point_list name.now p) }
 {
     let values = [length(alloc, p.x)?, length(alloc, p.y)?];
@@ -82,7 +82,7 @@ fn word_list(alloc: Global, name: &[u8], word: &[u8]) -> Result<Vec<u8>, Memory>
 
 /// The `layer` of a track.
 fn layer_list(alloc: Global, layer: &[u8]) -> Result<Vec<u8>, Memory>
-    ensures { IfOk result (λ v. v.items ≡ list_text (codes "layer") (quoted layer.now ∷ [])) }
+    ensures { IfOk result (λ v. v.items ≡ list_text (codes "layer") (between_quotes layer.now ∷ [])) }
 {
     let values = [between(alloc, b"\"", layer, b"\"")?];
     list(alloc, b"layer", &values)
@@ -90,7 +90,7 @@ fn layer_list(alloc: Global, layer: &[u8]) -> Result<Vec<u8>, Memory>
 
 /// The `layers` of a via.
 fn layers_list(alloc: Global, top: &[u8], bottom: &[u8]) -> Result<Vec<u8>, Memory>
-    ensures { IfOk result (λ v. v.items ≡ list_text (codes "layers") (quoted top.now ∷ quoted bottom.now ∷ [])) }
+    ensures { IfOk result (λ v. v.items ≡ list_text (codes "layers") (between_quotes top.now ∷ between_quotes bottom.now ∷ [])) }
 {
     let values = [
         between(alloc, b"\"", top, b"\"")?,
@@ -110,8 +110,8 @@ pub fn track_text(
     net: u32,
     stamp: &[u8],
 ) -> Result<Vec<u8>, Memory>
-    requires from { IsPlace from }
-    requires to { IsPlace to }
+    requires from { IsPointInRange from }
+    requires to { IsPointInRange to }
     requires width { IsSize width }
     ensures { IfOk result (λ v. v.items ≡ track_line from to width layer.now net stamp.now) }
 {
@@ -139,7 +139,7 @@ pub fn via_text(
     net: u32,
     stamp: &[u8],
 ) -> Result<Vec<u8>, Memory>
-    requires at { IsPlace at }
+    requires at { IsPointInRange at }
     requires size { IsSize size }
     requires drill { IsSize drill }
     ensures { IfOk result (λ v. v.items ≡ via_line at size drill top.now bottom.now net stamp.now) }

@@ -2,19 +2,19 @@
 use Rattle.std.proofs.Common.{◌≡◌, refl, ◌∙◌, ap, subst, ℕ, ◌+◌, ◌≤◌, inl, inr, arith, List, [], ◌∷◌}
 use Rattle.classes.specs.Classes.{IsOneOf}
 use Rattle.board_language.specs.Board.{Board}
-use Rattle.fills.specs.Fills.{Made}
+use Rattle.fill_rules.specs.Made.{Made}
 use Rattle.fills.proofs.Same.{one_fill}
-use Rattle.fill_pool.specs.Runs.{Ascending, AreFillsOf}
+use Rattle.fill_pool.specs.Runs.{AreRanksAscending, AreFillsOfTasks}
 use Rattle.fill_pool.specs.Laws.{OneAboveLaw}
 
-from_low : (low : ℕ) (js : List ℕ) → Ascending low js → (x : ℕ) → IsOneOf x js → low ≤ x
+from_low : (low : ℕ) (js : List ℕ) → AreRanksAscending low js → (x : ℕ) → IsOneOf x js → low ≤ x
 unfolding IsOneOf
 from_low low [] a x o = absurd o
 from_low low (j ∷ js) (l, a) x (inl e) = omega (arith, l, e)
 from_low low (j ∷ js) (l, a) x (inr o) = let r : j + 1 ≤ x = from_low (j + 1) js a x o in omega (arith, l, r)
 
 -- one of the list begins it, or is past its first
-first_or_past : (low : ℕ) (j : ℕ) (js : List ℕ) → Ascending low (j ∷ js) → (x : ℕ) → IsOneOf x (j ∷ js) → j ≤ x
+first_or_past : (low : ℕ) (j : ℕ) (js : List ℕ) → AreRanksAscending low (j ∷ js) → (x : ℕ) → IsOneOf x (j ∷ js) → j ≤ x
 unfolding IsOneOf
 first_or_past low j js (l, a) x (inl e) = omega (arith, e)
 first_or_past low j js (l, a) x (inr o) = let r : j + 1 ≤ x = from_low (j + 1) js a x o in omega (arith, r)
@@ -37,7 +37,7 @@ unfolding IsOneOf
 past_first x j js l (inl e) = absurd (omega (arith, l, e))
 past_first x j js l (inr o) = o
 
-one_order : (low least : ℕ) (js ks : List ℕ) → Ascending low js → Ascending least ks
+one_order : (low least : ℕ) (js ks : List ℕ) → AreRanksAscending low js → AreRanksAscending least ks
     → ((x : ℕ) → IsOneOf x js → IsOneOf x ks) → ((x : ℕ) → IsOneOf x ks → IsOneOf x js) → js ≡ ks
 one_order low least [] [] a c h g = refl
 one_order low least [] (k ∷ ks) a c h g = absurd (let e : [] ≡ k ∷ [] = none_is k (g k (first_is k ks)) in cc)
@@ -51,7 +51,7 @@ one_order low least (j ∷ js) (k ∷ ks) a c h g =
     (λ x o. past_first x j js (let l : k + 1 ≤ x = from_low (k + 1) ks c.1 x o in omega (arith, l, down)) (g x (behind x k ks o))) in
     ap (λ (n : ℕ). n ∷ js) e ∙ ap (λ (ns : List ℕ). k ∷ ns) t
 
-one_list : (b : Board) (js : List ℕ) (fs gs : List Made) → AreFillsOf b js fs → AreFillsOf b js gs → fs ≡ gs
+one_list : (b : Board) (js : List ℕ) (fs gs : List Made) → AreFillsOfTasks b js fs → AreFillsOfTasks b js gs → fs ≡ gs
 one_list b [] [] [] h w = refl
 one_list b [] [] (g ∷ gs) h w = absurd w
 one_list b [] (f ∷ fs) gs h w = absurd h
@@ -64,4 +64,4 @@ pub one_above : OneAboveLaw
 one_above b i fs gs h w =
     let e = one_order 0 0 h.tasks w.tasks h.reaching.order w.reaching.order
     (λ x o. (w.reaching.same x).1 ((h.reaching.same x).0 o)) (λ x o. (h.reaching.same x).1 ((w.reaching.same x).0 o)) in
-    one_list b w.tasks fs gs (subst (λ (js : List ℕ). AreFillsOf b js fs) e h.each) w.each
+    one_list b w.tasks fs gs (subst (λ (js : List ℕ). AreFillsOfTasks b js fs) e h.each) w.each

@@ -8,7 +8,7 @@ use Rattle.board_language.specs.Board.{Board}
 use Rattle.pool_rules.specs.declared.PoolEvent.{PoolEvent}
 use Rattle.pool_rules.specs.declared.PoolEvent.TheVariants.{Take, Finish, Back}
 use Rattle.pool_rules.specs.declared.Slot.TheVariants.{Waiting, Held}
-use Rattle.pool_rules.specs.Runs.{State, slot_at, opening, step, run, IsReady, IsTake, IsEvent, IsLawful}
+use Rattle.pool_rules.specs.Runs.{PoolState, slot_at, opening, pool_step, run, IsReady, IsTake, IsEvent, IsLawful}
 use Rattle.pool_rules.specs.Laws.{IsUpward}
 use Rattle.pool_rules.proofs.Runs.{waiting_within, held_within, lawful_more, lawful_parts, length_run, length-replicate, good_short, held_done, lawful_good}
 use Rattle.fill_pool.specs.Runs.{count_of, IsReachOf, state_of, IsRunOf, IsHalted, IsReadyIn, IsNext, IsHeld, IsTableOf}
@@ -55,22 +55,22 @@ past (x ∷ xs) zero d l = absurd (omega (arith, l))
 past (x ∷ xs) (suc k) d l = past xs k d (omega (arith, l))
 
 -- ---- given back
-backed_run : (s : State) (es : List PoolEvent) → (run s es).backed ≡ true → (s.backed ≡ true) ⊎ IsHalted es
+backed_run : (s : PoolState) (es : List PoolEvent) → (run s es).backed ≡ true → (s.backed ≡ true) ⊎ IsHalted es
 unfolding IsOneOf
 backed_run s [] h = inl h
-backed_run s (Take w i ∷ es) h = elim (backed_run (step s (Take w i)) es h) [ inl b ↦ inl b | inr (v, k, o) ↦ inr (v, k, inr o) ]
-backed_run s (Finish w i ∷ es) h = elim (backed_run (step s (Finish w i)) es h) [ inl b ↦ inl b | inr (v, k, o) ↦ inr (v, k, inr o) ]
+backed_run s (Take w i ∷ es) h = elim (backed_run (pool_step s (Take w i)) es h) [ inl b ↦ inl b | inr (v, k, o) ↦ inr (v, k, inr o) ]
+backed_run s (Finish w i ∷ es) h = elim (backed_run (pool_step s (Finish w i)) es h) [ inl b ↦ inl b | inr (v, k, o) ↦ inr (v, k, inr o) ]
 backed_run s (Back w i ∷ es) h = inr (w, i, inl refl)
 
-run_backed : (s : State) (es : List PoolEvent) → (s.backed ≡ true) ⊎ IsHalted es → (run s es).backed ≡ true
+run_backed : (s : PoolState) (es : List PoolEvent) → (s.backed ≡ true) ⊎ IsHalted es → (run s es).backed ≡ true
 unfolding IsOneOf
 run_backed s [] (inl h) = h
 run_backed s [] (inr (w, i, o)) = absurd o
-run_backed s (Take w i ∷ es) (inl h) = run_backed (step s (Take w i)) es (inl h)
-run_backed s (Finish w i ∷ es) (inl h) = run_backed (step s (Finish w i)) es (inl h)
-run_backed s (Back w i ∷ es) h = run_backed (step s (Back w i)) es (inl refl)
-run_backed s (Take w i ∷ es) (inr (v, k, inr o)) = run_backed (step s (Take w i)) es (inr (v, k, o))
-run_backed s (Finish w i ∷ es) (inr (v, k, inr o)) = run_backed (step s (Finish w i)) es (inr (v, k, o))
+run_backed s (Take w i ∷ es) (inl h) = run_backed (pool_step s (Take w i)) es (inl h)
+run_backed s (Finish w i ∷ es) (inl h) = run_backed (pool_step s (Finish w i)) es (inl h)
+run_backed s (Back w i ∷ es) h = run_backed (pool_step s (Back w i)) es (inl refl)
+run_backed s (Take w i ∷ es) (inr (v, k, inr o)) = run_backed (pool_step s (Take w i)) es (inr (v, k, o))
+run_backed s (Finish w i ∷ es) (inr (v, k, inr o)) = run_backed (pool_step s (Finish w i)) es (inr (v, k, o))
 run_backed s (Take w i ∷ es) (inr (v, k, inl e)) = absurd (let f : Back v k ≡ Take w i = e in cc)
 run_backed s (Finish w i ∷ es) (inr (v, k, inl e)) = absurd (let f : Back v k ≡ Finish w i = e in cc)
 
@@ -164,7 +164,7 @@ pub above_done : AboveLaw
 unfolding IsRunOf
 above_done b es (reach, r, l) w i h j e = held_done reach (count_of b) es l i w h j ((r j i).1 (held_in b es i w h, e))
 
-first_event : (reach : ℕ → ℕ → Bool) (s : State) (e : PoolEvent) (es : List PoolEvent) → IsLawful reach s (e ∷ es) → IsEvent reach s e
+first_event : (reach : ℕ → ℕ → Bool) (s : PoolState) (e : PoolEvent) (es : List PoolEvent) → IsLawful reach s (e ∷ es) → IsEvent reach s e
 unfolding IsLawful
 first_event reach s e es h = h.0
 

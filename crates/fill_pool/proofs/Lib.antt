@@ -2,5 +2,4 @@ pub mod Rows
 pub mod Boards
 pub mod Machines
 pub mod Pools
-pub mod Narrow
 pub mod Aboves

@@ -8,14 +8,14 @@ use Rattle.pool_rules.specs.declared.PoolEvent.{PoolEvent}
 use Rattle.pool_rules.specs.declared.PoolEvent.TheVariants.{Take, Finish, Back}
 use Rattle.pool_rules.specs.declared.Slot.{Slot}
 use Rattle.pool_rules.specs.declared.Slot.TheVariants.{Waiting, Held, Finished, Returned}
-use Rattle.pool_rules.specs.Runs.{State, slot_at, opening, step, IsLawful}
+use Rattle.pool_rules.specs.Runs.{PoolState, slot_at, opening, pool_step, IsLawful}
 use Rattle.pool_rules.proofs.Runs.{waiting_within, run_more}
 use Rattle.fill_pool.specs.Slots.{IsReadyRow}
 use Rattle.fill_pool.specs.Runs.{count_of, state_of, IsRunOf, IsHalted, IsReadyIn, IsNext, NoneReady, IsHeld, AllFinished, NoneHeld, AreReaching, IsTableOf}
 use Rattle.fill_pool.specs.Fields.{IsMachine}
 use Rattle.fill_pool.proofs.Boards.{all_one_of, one_of_get, table_reach, slots_size, waiting_in, halted_is, calm_is, take_follows, finish_follows, back_follows, run_short, reach_of}
 
-abbrev state : List Slot → Bool → State
+abbrev state : List Slot → Bool → PoolState
 state slots halted = record { slots = slots; backed = halted }
 
 pub pushed : {A : Type 0} (b : Bool) (x y z : A) → b ≡ true → z ≡ cond b x y → z ≡ x
@@ -29,13 +29,13 @@ length_map f (x ∷ xs) = ap suc (length_map f xs)
 module _ (b : Board) (slots : List Slot) (table : List (List ℕ)) (es : List PoolEvent) (halted : Bool) (cap : ℕ) (p : IsMachine b slots table es halted cap) where
   -- ---- what the slots say
   pub told : (i : ℕ) (x : Slot) → get_or slots i Finished ≡ x → slot_at (state_of b es) i ≡ x
-  told i x h = ap (λ (s : State). slot_at s i) p.stands ∙ h
+  told i x h = ap (λ (s : PoolState). slot_at s i) p.stands ∙ h
 
   pub tells : (i : ℕ) (x : Slot) → slot_at (state_of b es) i ≡ x → get_or slots i Finished ≡ x
-  tells i x h = ap (λ (s : State). slot_at s i) (sym p.stands) ∙ h
+  tells i x h = ap (λ (s : PoolState). slot_at s i) (sym p.stands) ∙ h
 
   pub sized : length slots ≡ count_of b
-  sized = ap (λ (s : State). length s.slots) (sym p.stands) ∙ slots_size b es
+  sized = ap (λ (s : PoolState). length s.slots) (sym p.stands) ∙ slots_size b es
 
   pub few_slots : length slots < 2 ^ 32
   few_slots = subst (λ (n : ℕ). n < 2 ^ 32) (sym sized) p.few
@@ -58,7 +58,7 @@ module _ (b : Board) (slots : List Slot) (table : List (List ℕ)) (es : List Po
 
   pub next_row : halted ≡ false → (i : ℕ) → IsReadyRow table slots i → ((j : ℕ) → j < i → IsReadyRow table slots j → ⊥) → IsNext b es i
   next_row off i h l = record {
-    calm = calm_is b es (ap (λ (s : State). s.backed) p.stands ∙ off);
+    calm = calm_is b es (ap (λ (s : PoolState). s.backed) p.stands ∙ off);
     ready = row_ready i h;
     first = λ j m r. l j m (ready_row j r);
   }
@@ -68,7 +68,7 @@ module _ (b : Board) (slots : List Slot) (table : List (List ℕ)) (es : List Po
 
   pub halted_told : IsTrue halted ↔ IsHalted es
   halted_told =
-      let e = ap (λ (s : State). s.backed) p.stands in
+      let e = ap (λ (s : PoolState). s.backed) p.stands in
       (λ t. (halted_is b es).0 (e ∙ t), λ h. sym e ∙ (halted_is b es).1 h)
 
   pub on_halt : halted ≡ true → IsHalted es
@@ -78,17 +78,17 @@ module _ (b : Board) (slots : List Slot) (table : List (List ℕ)) (es : List Po
   room_for : (e : PoolEvent) → IsRunOf b (es ++ e ∷ []) → length es < cap
   room_for e h = omega (arith, run_short b (es ++ e ∷ []) h, length-append es (e ∷ []), p.room)
 
-  step_to : (e : PoolEvent) (new : List Slot) (off : Bool) (more : ℕ) → IsRunOf b (es ++ e ∷ []) → step (state slots halted) e ≡ state new off → cap ≤ more
+  step_to : (e : PoolEvent) (new : List Slot) (off : Bool) (more : ℕ) → IsRunOf b (es ++ e ∷ []) → pool_step (state slots halted) e ≡ state new off → cap ≤ more
       → IsMachine b new table (es ++ e ∷ []) off more
   step_to e new off more h s le = record {
     table_is = p.table_is;
     lawful = h;
-    stands = run_more (opening (count_of b)) es e ∙ (ap (λ (t : State). step t e) p.stands ∙ s);
+    stands = run_more (opening (count_of b)) es e ∙ (ap (λ (t : PoolState). pool_step t e) p.stands ∙ s);
     room = omega (arith, p.room, le);
     few = p.few;
   }
 
-  after : (e : PoolEvent) (slots' : List Slot) (off : Bool) (more : ℕ) (new : List PoolEvent) (ok : Bool) → IsRunOf b (es ++ e ∷ []) → step (state slots halted) e ≡ state slots' off
+  after : (e : PoolEvent) (slots' : List Slot) (off : Bool) (more : ℕ) (new : List PoolEvent) (ok : Bool) → IsRunOf b (es ++ e ∷ []) → pool_step (state slots halted) e ≡ state slots' off
       → (length es < cap → ok ≡ true) → new ≡ cond ok (es ++ e ∷ []) es → cap ≤ more
       → (new ≡ es ++ e ∷ []) × IsMachine b slots' table new off more
   after e slots' off more new ok h s room is le =
@@ -127,7 +127,7 @@ module _ (b : Board) (slots : List Slot) (table : List (List ℕ)) (es : List Po
 -- ---- at the opening
 pub taken_holds : (b : Board) (es : List PoolEvent) (v i : ℕ) → IsNext b es i → IsHeld b (es ++ Take v i ∷ []) v i
 taken_holds b es v i n =
-    ap (λ (s : State). slot_at s i) (run_more (opening (count_of b)) es (Take v i))
+    ap (λ (s : PoolState). slot_at s i) (run_more (opening (count_of b)) es (Take v i))
     ∙ get_or-set_same (state_of b es).slots i (Held v) Finished (waiting_within (state_of b es).slots i n.ready.waiting)
 
 none_yet : (b : Board) (table : List (List ℕ)) → IsTableOf b table → IsRunOf b []

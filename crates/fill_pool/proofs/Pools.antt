@@ -12,12 +12,12 @@ use Rattle.pool_rules.specs.declared.PoolEvent.{PoolEvent}
 use Rattle.pool_rules.specs.declared.PoolEvent.TheVariants.{Take, Finish, Back}
 use Rattle.pool_rules.specs.declared.Slot.{Slot}
 use Rattle.pool_rules.specs.declared.Slot.TheVariants.{Waiting, Held, Finished, Returned}
-use Rattle.pool_rules.specs.Runs.{State, slot_at, opening, step}
+use Rattle.pool_rules.specs.Runs.{PoolState, slot_at, opening, pool_step}
 use Rattle.pool_rules.proofs.Runs.{waiting_within, held_within, run_more, get_or-replicate}
-use Rattle.fills.specs.Fills.{Made, IsFillOf}
-use Rattle.fills.specs.Laws.{no_fill}
-use Rattle.fill_pool.specs.Runs.{count_of, state_of, IsRunOf, IsNext, IsHeld, AllFinished, AreReaching, AreFillsOf, AreFillsAbove}
-use Rattle.fill_pool.specs.Slots.{IsFull, made_of, made_at}
+use Rattle.fill_rules.specs.Made.{Made, no_fill}
+use Rattle.fills.specs.Fills.{IsFillOf}
+use Rattle.fill_pool.specs.Runs.{count_of, state_of, IsRunOf, IsNext, IsHeld, AllFinished, AreReaching, AreFillsOfTasks, AreFillsAbove}
+use Rattle.fill_pool.specs.Slots.{IsFull, made_in_slot, made_at}
 use Rattle.fill_pool.specs.Fields.{HasFill, IsPool}
 use Rattle.fill_pool.proofs.Boards.{one_of_get, held_in, above_done}
 
@@ -26,7 +26,7 @@ full_is : (b : Board) (i : ℕ) (o : Option Made) → HasFill b i o → IsFull o
 full_is b i None h = h
 full_is b i (Some f) h = tt
 
-made_is : (b : Board) (i : ℕ) (o : Option Made) → HasFill b i o → IsFillOf b i (made_of o)
+made_is : (b : Board) (i : ℕ) (o : Option Made) → HasFill b i o → IsFillOf b i (made_in_slot o)
 made_is b i None h = absurd h
 made_is b i (Some f) h = h
 
@@ -37,8 +37,8 @@ before_set slots i j x l ne f = elim (cases_eq j i) [
   | inr n ↦ sym (get_or-set_other slots i j x Finished n) ∙ f
 ]
 
-after : (b : Board) (es : List PoolEvent) (e : PoolEvent) (j : ℕ) (x : Slot) → slot_at (state_of b (es ++ e ∷ [])) j ≡ x → slot_at (step (state_of b es) e) j ≡ x
-after b es e j x h = ap (λ (s : State). slot_at s j) (sym (run_more (opening (count_of b)) es e)) ∙ h
+after : (b : Board) (es : List PoolEvent) (e : PoolEvent) (j : ℕ) (x : Slot) → slot_at (state_of b (es ++ e ∷ [])) j ≡ x → slot_at (pool_step (state_of b es) e) j ≡ x
+after b es e j x h = ap (λ (s : PoolState). slot_at s j) (sym (run_more (opening (count_of b)) es e)) ∙ h
 
 held_not : (v : ℕ) → Held v ≡ Finished → ⊥
 held_not v e = cc
@@ -51,7 +51,7 @@ waiting_not e = cc
 
 module _ (b : Board) (es : List PoolEvent) (tasks : List Task) (fills : List (Option Made)) (all : List Made) (cap : ℕ) (p : IsPool b es tasks fills all cap) where
   -- the same fills serve after an event that finishes nothing
-  kept : (e : PoolEvent) → ((j : ℕ) → slot_at (step (state_of b es) e) j ≡ Finished → slot_at (state_of b es) j ≡ Finished) → IsPool b (es ++ e ∷ []) tasks fills all cap
+  kept : (e : PoolEvent) → ((j : ℕ) → slot_at (pool_step (state_of b es) e) j ≡ Finished → slot_at (state_of b es) j ≡ Finished) → IsPool b (es ++ e ∷ []) tasks fills all cap
   kept e h = record {
     ranks = p.ranks;
     sized = p.sized;
@@ -106,7 +106,7 @@ module _ (b : Board) (es : List PoolEvent) (tasks : List Task) (fills : List (Op
   pub above_full : IsRunOf b es → (v i : ℕ) → IsHeld b es v i → (js : List ℕ) → AreReaching b i js → All (λ (j : ℕ). IsFull (get_or fills j None)) js
   above_full lawful v i h js r = λ k d l. full_is b (get_or js k d) (get_or fills (get_or js k d) None) (above_has lawful v i h js r (get_or js k d) (one_of_get js k d l))
 
-  row_fills : (js : List ℕ) → All (λ (j : ℕ). HasFill b j (get_or fills j None)) js → AreFillsOf b js (map (made_at fills) js)
+  row_fills : (js : List ℕ) → All (λ (j : ℕ). HasFill b j (get_or fills j None)) js → AreFillsOfTasks b js (map (made_at fills) js)
   row_fills [] h = tt
   row_fills (j ∷ js) h =
       (made_is b j (get_or fills j None) (All-head (λ (k : ℕ). HasFill b k (get_or fills k None)) j js h), row_fills js (All-tail (λ (k : ℕ). HasFill b k (get_or fills k None)) j js h))
@@ -115,7 +115,7 @@ module _ (b : Board) (es : List PoolEvent) (tasks : List Task) (fills : List (Op
   above_fills lawful v i h js r out e = record {
     tasks = js;
     reaching = r;
-    each = subst (AreFillsOf b js) (sym e) (row_fills js (λ k d l. above_has lawful v i h js r (get_or js k d) (one_of_get js k d l)));
+    each = subst (AreFillsOfTasks b js) (sym e) (row_fills js (λ k d l. above_has lawful v i h js r (get_or js k d) (one_of_get js k d l)));
   }
 
   -- ---- the fills of all

@@ -6,7 +6,8 @@ use Rattle.pool_rules.specs.declared.PoolEvent.{PoolEvent}
 use Rattle.pool_rules.specs.declared.Slot.{Slot}
 use Rattle.pool_rules.specs.declared.Slot.TheVariants.{Finished}
 use Rattle.pool_rules.specs.Runs.{slot_at}
-use Rattle.fills.specs.Fills.{Made, IsFillOf}
+use Rattle.fill_rules.specs.Made.{Made}
+use Rattle.fills.specs.Fills.{IsFillOf}
 use Rattle.fill_pool.specs.Runs.{count_of, state_of, IsRunOf, IsTableOf}
 
 -- the slots are those after the events, which are a lawful run; there is room for every event that may come

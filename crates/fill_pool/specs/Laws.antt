@@ -7,7 +7,7 @@ use Rattle.pool_rules.specs.declared.PoolEvent.TheVariants.{Take, Finish, Back}
 use Rattle.pool_rules.specs.Runs.{slot_at}
 use Rattle.pool_rules.specs.declared.Slot.TheVariants.{Finished}
 use Rattle.pool_rules.specs.Laws.{finishes, takes}
-use Rattle.fills.specs.Fills.{Made}
+use Rattle.fill_rules.specs.Made.{Made}
 use Rattle.fill_pool.specs.Runs.{count_of, state_of, IsRunOf, IsHalted, IsNext, IsHeld, NoneHeld, AreFillsAbove}
 
 -- what every lawful run of a board has, of any length and with any workers
@@ -24,6 +24,7 @@ pub record IsGoodRunOf (b : Board) (events : List PoolEvent) : Type 0 where
   -- a task has at most two events
   pub short : length events ≤ count_of b + count_of b
 
+-- every lawful run over a board's tasks is good
 abbrev pub BoardRunsLaw : Type 0
 BoardRunsLaw = (b : Board) (events : List PoolEvent) → IsRunOf b events → IsGoodRunOf b events
 

@@ -3,4 +3,3 @@ pub mod Slots
 pub mod Fields
 pub mod Laws
 pub mod Workers
-pub mod Narrow

@@ -7,9 +7,11 @@ use Rattle.fill_rules.specs.Reach.{IsReaching}
 use Rattle.pool_rules.specs.declared.PoolEvent.{PoolEvent}
 use Rattle.pool_rules.specs.declared.PoolEvent.TheVariants.{Back}
 use Rattle.pool_rules.specs.declared.Slot.TheVariants.{Waiting, Held, Finished}
-use Rattle.pool_rules.specs.Runs.{State, slot_at, opening, run, IsLawful}
-use Rattle.fills.specs.Fills.{Made, IsFillOf}
+use Rattle.pool_rules.specs.Runs.{PoolState, slot_at, opening, run, IsLawful}
+use Rattle.fill_rules.specs.Made.{Made, no_fill}
+use Rattle.fills.specs.Fills.{IsFillOf}
 
+-- how many tasks a board has
 abbrev pub count_of : Board → ℕ
 count_of b = length (ranked b)
 
@@ -18,7 +20,7 @@ abbrev pub IsReachOf : Board → (ℕ → ℕ → Bool) → Type 0
 IsReachOf b reach = (j i : ℕ) → (reach j i ≡ true) ↔ ((i < count_of b) × IsReaching b j i)
 
 -- all tasks wait, and then these events happen
-abbrev pub state_of : Board → List PoolEvent → State
+abbrev pub state_of : Board → List PoolEvent → PoolState
 state_of b events = run (opening (count_of b)) events
 
 -- the events are a lawful run over the board's tasks
@@ -48,9 +50,11 @@ NoneReady b events = (i : ℕ) → IsReadyIn b events i → ⊥
 abbrev pub IsHeld : Board → List PoolEvent → ℕ → ℕ → Type 0
 IsHeld b events worker i = slot_at (state_of b events) i ≡ Held worker
 
+-- each task of the board is finished
 abbrev pub AllFinished : Board → List PoolEvent → Type 0
 AllFinished b events = (i : ℕ) → i < count_of b → slot_at (state_of b events) i ≡ Finished
 
+-- no worker holds any task
 abbrev pub NoneHeld : Board → List PoolEvent → Type 0
 NoneHeld b events = (i worker : ℕ) → IsHeld b events worker i → ⊥
 
@@ -69,27 +73,31 @@ IsHolding b events t = IsHeld b events t.worker t.number
 -- ---- the tasks that reach a task, and their fills
 
 -- in rank order, and none twice; the first is low or more
-abbrev pub Ascending : ℕ → List ℕ → Type 0
-Ascending low [] = Unit {0}
-Ascending low (j ∷ js) = (low ≤ j) × Ascending (j + 1) js
+abbrev pub AreRanksAscending : ℕ → List ℕ → Type 0
+AreRanksAscending low [] = Unit {0}
+AreRanksAscending low (j ∷ js) = (low ≤ j) × AreRanksAscending (j + 1) js
 
 -- they are the ranks of the tasks that reach the task, in rank order
 pub record AreReaching (b : Board) (i : ℕ) (js : List ℕ) : Type 0 where
-  pub order : Ascending 0 js
+  pub order : AreRanksAscending 0 js
   pub same : (j : ℕ) → IsOneOf j js ↔ IsReaching b j i
 
+-- the list has the fill of each task of the board, in rank order
+abbrev pub HasEachFill : Board → List Made → Type 0
+HasEachFill b fills = (i : ℕ) → i < count_of b → IsFillOf b i (get_or fills i no_fill)
+
 -- one by one, the fills of these tasks
-abbrev pub AreFillsOf : Board → List ℕ → List Made → Type 0
-AreFillsOf b [] [] = Unit {0}
-AreFillsOf b [] (f ∷ fs) = ⊥
-AreFillsOf b (j ∷ js) [] = ⊥
-AreFillsOf b (j ∷ js) (f ∷ fs) = IsFillOf b j f × AreFillsOf b js fs
+abbrev pub AreFillsOfTasks : Board → List ℕ → List Made → Type 0
+AreFillsOfTasks b [] [] = Unit {0}
+AreFillsOfTasks b [] (f ∷ fs) = ⊥
+AreFillsOfTasks b (j ∷ js) [] = ⊥
+AreFillsOfTasks b (j ∷ js) (f ∷ fs) = IsFillOf b j f × AreFillsOfTasks b js fs
 
 -- they are the fills of exactly the tasks that reach the task, in rank order
 pub record AreFillsAbove (b : Board) (i : ℕ) (fills : List Made) : Type 0 where
   pub tasks : List ℕ
   pub reaching : AreReaching b i tasks
-  pub each : AreFillsOf b tasks fills
+  pub each : AreFillsOfTasks b tasks fills
 
 -- for each task of the board, the ranks of the tasks that reach it
 pub record IsTableOf (b : Board) (table : List (List ℕ)) : Type 0 where

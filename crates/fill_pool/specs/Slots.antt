@@ -6,8 +6,7 @@ use Rattle.std.specs.List.{All}
 use Rattle.board_language.specs.Board.{Board}
 use Rattle.pool_rules.specs.declared.Slot.{Slot}
 use Rattle.pool_rules.specs.declared.Slot.TheVariants.{Waiting, Finished}
-use Rattle.fills.specs.Fills.{Made}
-use Rattle.fills.specs.Laws.{no_fill}
+use Rattle.fill_rules.specs.Made.{Made, no_fill}
 
 -- the task waits, and those of the list at its number are finished
 pub record IsReadyRow (table : List (List ℕ)) (slots : List Slot) (i : ℕ) : Type 0 where
@@ -30,18 +29,21 @@ no_board =
     }
 
 -- ---- the fills that were handed in, a slot for each task
+-- a slot's fill, through its shared pointer
 abbrev pub filled : {Z : Type 0} → Option (Arc Made Z) → Option Made
 filled None = None
 filled (Some fill) = Some (arc_value fill)
 
+-- the slot has a fill
 abbrev pub IsFull : Option Made → Type 0
 IsFull None = ⊥
 IsFull (Some fill) = Unit {0}
 
-abbrev pub made_of : Option Made → Made
-made_of None = no_fill
-made_of (Some fill) = fill
+-- the fill of a slot; that past the last task where it has none
+abbrev pub made_in_slot : Option Made → Made
+made_in_slot None = no_fill
+made_in_slot (Some fill) = fill
 
 -- the fill in the task's slot
 abbrev pub made_at : List (Option Made) → ℕ → Made
-made_at fills i = made_of (get_or fills i None)
+made_at fills i = made_in_slot (get_or fills i None)

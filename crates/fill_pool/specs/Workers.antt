@@ -1,7 +1,7 @@
 -- What a worker knows between two holds of the lock.
 use Rattle.std.specs.Prelude.{List}
 use Rattle.board_language.specs.Board.{Board}
-use Rattle.fills.specs.Fills.{Made}
+use Rattle.fill_rules.specs.Made.{Made}
 use Rattle.fill_pool.specs.Runs.{AreFillsAbove}
 use Rattle.fill_pool.specs.declared.workers.Next.{Next}
 use Rattle.fill_pool.specs.declared.workers.Next.TheVariants.{Fill, GiveBack, Again, End}

@@ -9,8 +9,6 @@ mod machine;
 mod named;
 mod pool;
 mod slots;
-#[cfg(test)]
-mod tests;
 mod ticket;
 mod workers;
 

@@ -1,11 +1,10 @@
 // The pool of a board's tasks.
-ghost use Rattle.std.specs.Prelude.{◌≡◌, ◌⊎◌, ◌↔◌, ℕ, ◌<◌, ◌^◌, List, [], ◌∷◌, ◌++◌, length, get_or, map, IfSome, IfNone, IfOk, OnErr, IsTrue};
+ghost use Rattle.std.specs.Prelude.{◌≡◌, ◌⊎◌, ◌↔◌, ◌<◌, ◌^◌, List, [], ◌∷◌, ◌++◌, length, map, IfSome, IfNone, IfOk, OnErr, IsTrue};
 ghost use Rattle.std.specs.Arc.{arc_value};
 ghost use Rattle.fill_rules.specs.Tasks.{ranked, task_at};
 ghost use Rattle.pool_rules.specs.declared.PoolEvent.TheVariants.{Take, Finish, Back};
 ghost use Rattle.fills.specs.Fills.{task_of, IsFillOf};
-ghost use Rattle.fills.specs.Laws.{no_fill};
-ghost use Rattle.fill_pool.specs.Runs.{count_of, IsRunOf, IsHalted, IsNext, NoneReady, AllFinished, NoneHeld, IsHolding, AreFillsAbove, IsTableOf};
+ghost use Rattle.fill_pool.specs.Runs.{count_of, IsRunOf, IsHalted, IsNext, NoneReady, AllFinished, NoneHeld, IsHolding, AreFillsAbove, HasEachFill, IsTableOf};
 
 use crate::copies::{copy_row, into_all, no_fills};
 use crate::machine::Machine;
@@ -165,7 +164,7 @@ impl<N: Named> Pool<N> {
     pub fn into_fills(self) -> Vec<Arc<Fill>>
         requires { AllFinished N.board self }
         ensures count { length result.items ≡ count_of N.board }
-        ensures each { (i : ℕ) → i < count_of N.board → IsFillOf N.board i (get_or (map arc_value result.items) i no_fill) }
+        ensures each { HasEachFill N.board (map arc_value result.items) }
     {
         let Pool {
             machine: _,

@@ -1,10 +1,9 @@
 // Workers that fill a board's tasks, with the pool behind one lock.
-ghost use Rattle.std.specs.Prelude.{◌≡◌, ℕ, ◌+◌, ◌<◌, ◌≤◌, length, get_or, map, IfOk, IfSome};
+ghost use Rattle.std.specs.Prelude.{◌≡◌, ◌+◌, ◌<◌, ◌≤◌, length, map, IfOk, IfSome};
 ghost use Rattle.std.specs.Arc.{arc_value};
 ghost use Rattle.std.specs.Thread.{IsSync};
 ghost use Rattle.fills.specs.Fills.{IsFillOf};
-ghost use Rattle.fills.specs.Laws.{no_fill};
-ghost use Rattle.fill_pool.specs.Runs.{count_of, AreFillsAbove};
+ghost use Rattle.fill_pool.specs.Runs.{count_of, AreFillsAbove, HasEachFill};
 ghost use Rattle.fill_pool.specs.Workers.{HasAbove};
 
 use crate::{Named, Pool, Ticket};
@@ -192,8 +191,7 @@ pub fn fill_by<
     requires some { 1 ≤ workers }
     requires few { workers ≤ 64 }
     ensures count { IfOk result (λ done. IfSome done (λ fills. length fills.items ≡ count_of N.board)) }
-    ensures each { IfOk result (λ done. IfSome done (λ fills. (i : ℕ) → i < count_of N.board
-        → IsFillOf N.board i (get_or (map arc_value fills.items) i no_fill))) }
+    ensures each { IfOk result (λ done. IfSome done (λ fills. HasEachFill N.board (map arc_value fills.items))) }
 {
     let shared = Shared {
         pool: Mutex::new(pool),

@@ -4,8 +4,9 @@ use Rattle.std.specs.Prelude.{ℤ, max, pos, ◌*ℤ◌, ◌-ℤ◌, true, ◌&&
 use Rattle.std.specs.Int.RustNames.{unsigned_abs}
 use Rattle.std.proofs.lemmas.Int.{ints}
 use Rattle.std.proofs.lemmas.Bool.{and_parts}
-use Rattle.plane.specs.Plane.{PlanePoint, Bounds, Within, In, times, minus, up2_of, IsNear, AreNear, positive_product}
-use Rattle.plane.proofs.Near.{le_up2}
+use Rattle.plane.specs.Plane.{PlanePoint, Bounds, Within, In, times, minus, IsNear, AreNear, positive_product}
+use Rattle.grid_num.specs.Roots.{up2_of}
+use Rattle.grid_num.proofs.Roots.{le_up2}
 use Rattle.plane.proofs.Points.{within_times}
 use Rattle.copper_shape.specs.Shapes.{Copper}
 use Rattle.copper_shape.specs.declared.edge.Edge.{Edge}
@@ -19,13 +20,12 @@ use Rattle.board_language.specs.declared.board.Pad.{Pad}
 use Rattle.board_language.specs.declared.board.Rules.{Rules}
 use Rattle.board_language.specs.Board.{Board}
 use Rattle.fill_rules.specs.Tasks.{Settings, has_layer}
-use Rattle.fill_rules.specs.Needs.{units, is_foreign, item_need, Need, at_need, when, track_copper, via_copper, hulls_round, pad_hulls, role, is_on, is_barred, track_needs, via_needs, pad_needs, edge_needs, item_needs}
+use Rattle.fill_rules.specs.Needs.{units, is_foreign, item_need, Need, at_need, keep_when, track_copper, via_copper, hulls_round, pad_hulls, role, is_on, is_barred, track_needs, via_needs, pad_needs, edge_needs, item_needs}
 use Rattle.fill_rules.specs.Anchors.{IsTouching, anchors_of}
 use Rattle.fill_rules.specs.InWords.{IsSolidPad, IsAnchor}
 use Rattle.fill_rules.specs.Dirty.{unlined}
 use Rattle.fill_rules.specs.Edits.{unplaced, unplaced_via, AreAmong}
-use Rattle.fill_rules.proofs.Members.{one_of_append, append_left, append_right, one_of_flat, flat_one_of, when_is, map_one_of, one_of_map}
-use Rattle.fill_rules.proofs.Members.{some_one_of}
+use Rattle.fill_rules.proofs.Members.{one_of_append, append_left, append_right, one_of_flat, flat_one_of, when_is, map_one_of, one_of_map, some_one_of}
 use Rattle.fill_rules.proofs.Anchors.{anchors_law, eq_true}
 
 -- ---- what touches an octagon has a hull near to it
@@ -80,7 +80,7 @@ module _ (b d : Board) (ts : List Track) (vs : List Via) (rules : b.rules ≡ d.
           | inl m ↦
               let y = one_of_map unplaced (unplaced g.0) d.tracks m in
               flat_one_of (track_needs d z l) n y.0 d.tracks y.1
-              (subst (λ (k : ℕ). IsOneOf n (when ((y.0.layer == l) && is_foreign z.net y.0.net) (at_need k (hulls_round (track_copper y.0))))) (ruled 0)
+              (subst (λ (k : ℕ). IsOneOf n (keep_when ((y.0.layer == l) && is_foreign z.net y.0.net) (at_need k (hulls_round (track_copper y.0))))) (ruled 0)
               (subst (λ (t : Track). IsOneOf n (track_needs b z l t)) y.2 g.2))
           | inr m ↦
               let y = one_of_map unplaced (unplaced g.0) ts m in
@@ -95,7 +95,7 @@ module _ (b d : Board) (ts : List Track) (vs : List Via) (rules : b.rules ≡ d.
           | inl m ↦
               let y = one_of_map unplaced_via (unplaced_via g.0) d.vias m in
               flat_one_of (via_needs d z l) n y.0 d.vias y.1
-              (subst (λ (k : ℕ). IsOneOf n (when (has_layer y.0.layers l && is_foreign z.net y.0.net) (at_need k (hulls_round (via_copper y.0))))) (ruled 0)
+              (subst (λ (k : ℕ). IsOneOf n (keep_when (has_layer y.0.layers l && is_foreign z.net y.0.net) (at_need k (hulls_round (via_copper y.0))))) (ruled 0)
               (subst (λ (v : Via). IsOneOf n (via_needs b z l v)) y.2 g.2))
           | inr m ↦
               let y = one_of_map unplaced_via (unplaced_via g.0) vs m in
@@ -112,7 +112,7 @@ module _ (b d : Board) (ts : List Track) (vs : List Via) (rules : b.rules ≡ d.
         let g = one_of_flat (pad_needs b z l) n b.pads i in
         let y = pad_to g.0 g.1 in
         flat_one_of (pad_needs d z l) n y.0 d.pads y.1
-        (subst (λ (k : ℕ). IsOneOf n (when (is_on l y.0 && is_barred (role z y.0)) (at_need k (pad_hulls y.0)))) (ruled y.0.clearance)
+        (subst (λ (k : ℕ). IsOneOf n (keep_when (is_on l y.0 && is_barred (role z y.0)) (at_need k (pad_hulls y.0)))) (ruled y.0.clearance)
         (subst (λ (p : Pad). IsOneOf n (pad_needs b z l p)) y.2 g.2))
 
     edges_to : (n : Need) → IsOneOf n (flat_map (edge_needs b) b.edges) → IsOneOf n (flat_map (edge_needs d) d.edges)

@@ -5,13 +5,13 @@ use Rattle.plane.specs.Plane.{PlanePoint, Bounds, In, ball_of, moved, IsNear, Ar
 use Rattle.classes.specs.Classes.{IsOneOf}
 use Rattle.classes.proofs.Reaching.{reaches_map, reaches_self, reaches_then, reaches_link, reaches_keeps}
 use Rattle.grid_num.specs.declared.Point.{Point}
-use Rattle.covering.specs.Covering.{Covers, edges_of}
+use Rattle.plane.specs.Covering.{Covers, edges_of}
 use Rattle.copper_shape.specs.declared.edge.Edge.{Edge}
 use Rattle.hulls.specs.Cells.{around}
 use Rattle.board_language.specs.declared.board.Pad.{Pad}
 use Rattle.board_language.specs.Board.{Board}
 use Rattle.fill_rules.specs.Tasks.{Settings, zone_at, layer_at, has_layer}
-use Rattle.fill_rules.specs.Needs.{at_need, when, pad_hulls}
+use Rattle.fill_rules.specs.Needs.{at_need, keep_when, pad_hulls}
 use Rattle.fill_rules.specs.Reliefs.{brush_radius, is_thermal, gap_of, thermal_needs, pad_spokes, spokes_of}
 use Rattle.fill_rules.specs.Anchors.{IsTouching, IsWithinEdges}
 use Rattle.fill_rules.specs.Reach.{IsReaching}
@@ -45,24 +45,24 @@ pads_like {X} f h b d i k e =
     ∙ (same3 (λ (ps : List Pad) (z : Settings) (l : ℕ). flat_map (f z l) ps) (map unlined b.pads) (map unlined d.pads) (zone_at b i) (zone_at d k) (layer_at b i) (layer_at d k) e.pads e.zone e.layer
     ∙ sym (flat_unlined (f (zone_at d k) (layer_at d k)) (h (zone_at d k) (layer_at d k)) d.pads))
 
-unlined_spokes : (z : Settings) (l : ℕ) (p : Pad) → when (is_thermal z l (unlined p)) (pad_spokes z (unlined p)) ≡ when (is_thermal z l p) (pad_spokes z p)
+unlined_spokes : (z : Settings) (l : ℕ) (p : Pad) → keep_when (is_thermal z l (unlined p)) (pad_spokes z (unlined p)) ≡ keep_when (is_thermal z l p) (pad_spokes z p)
 unfolding pad_spokes pad_hulls
 unlined_spokes z l p = refl
 
 unlined_gaps : (z : Settings) (l : ℕ) (p : Pad)
-    → when (is_thermal z l (unlined p)) (at_need (gap_of z (unlined p)) (pad_hulls (unlined p))) ≡ when (is_thermal z l p) (at_need (gap_of z p) (pad_hulls p))
+    → keep_when (is_thermal z l (unlined p)) (at_need (gap_of z (unlined p)) (pad_hulls (unlined p))) ≡ keep_when (is_thermal z l p) (at_need (gap_of z p) (pad_hulls p))
 unfolding pad_hulls
 unlined_gaps z l p = refl
 
 spokes_like : (b d : Board) (i k : ℕ) → IsLike b d i k → spokes_of b (zone_at b i) (layer_at b i) ≡ spokes_of d (zone_at d k) (layer_at d k)
 unfolding spokes_of
 spokes_like b d i k e =
-    pads_like (λ (z : Settings) (l : ℕ) (p : Pad). when (is_thermal z l p) (pad_spokes z p)) unlined_spokes b d i k e
+    pads_like (λ (z : Settings) (l : ℕ) (p : Pad). keep_when (is_thermal z l p) (pad_spokes z p)) unlined_spokes b d i k e
 
 thermal_like : (b d : Board) (i k : ℕ) → IsLike b d i k → thermal_needs b (zone_at b i) (layer_at b i) ≡ thermal_needs d (zone_at d k) (layer_at d k)
 unfolding thermal_needs
 thermal_like b d i k e =
-    pads_like (λ (z : Settings) (l : ℕ) (p : Pad). when (is_thermal z l p) (at_need (gap_of z p) (pad_hulls p))) unlined_gaps b d i k e
+    pads_like (λ (z : Settings) (l : ℕ) (p : Pad). keep_when (is_thermal z l p) (at_need (gap_of z p) (pad_hulls p))) unlined_gaps b d i k e
 
 fits_like : (b d : Board) (i k : ℕ) → IsLike b d i k → (o : Bounds) → Fits b i o → Fits d k o
 fits_like b d i k e o f = record {

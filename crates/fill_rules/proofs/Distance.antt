@@ -5,7 +5,7 @@ use Rattle.std.specs.Prelude.{ℤ, pos, negsuc, ◌+ℤ◌, ◌-ℤ◌, ◌*ℤ�
 use Rattle.std.proofs.Math.IntN.{*ℤ_comm, *ℤ-negsuc, pos-*ℤ-pos}
 use Rattle.std.proofs.lemmas.Int.{ints, by_lt_z}
 use Rattle.plane.specs.Plane.{PlanePoint, minus, positive_product, IsNear, scaled_dist_sq}
-use Rattle.plane.proofs.Times.{mul_suc, mul_le, mul_add, mul_sub, mul_le_back}
+use Rattle.grid_num.proofs.Products.{mul_suc, mul_le, mul_add, mul_sub, mul_le_back}
 use Rattle.plane.proofs.Points.{mul_mul, mul_swap}
 use Rattle.plane.proofs.Euclid.{euclid}
 use Rattle.fill_rules.specs.Distance.{IsWithin}

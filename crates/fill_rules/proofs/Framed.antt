@@ -6,11 +6,11 @@ use Rattle.std.proofs.lemmas.Int.{ints}
 use Rattle.std.proofs.lemmas.Bool.{and_parts, true≢false}
 use Rattle.std.proofs.lemmas.List.Sums.{sum_by-cons}
 use Rattle.plane.specs.Plane.{PlanePoint, Bounds, In}
-use Rattle.plane.proofs.Times.{mul_add, mul_sub, mul_lt_back}
+use Rattle.grid_num.proofs.Products.{mul_add, mul_sub, mul_lt_back}
 use Rattle.grid_num.specs.declared.Point.{Point}
-use Rattle.covering.specs.Covering.{Edge, IsOn, crossing, crossings, IsOdd, Covers, edges_to, edges_of}
-use Rattle.covering.proofs.Counts.{less_true, most_true, most_false}
-use Rattle.covering.proofs.Lists.{any_none, covers_cases}
+use Rattle.plane.specs.Covering.{Edge, IsOn, crossing, crossings, IsOdd, Covers, edges_to, edges_of}
+use Rattle.plane.proofs.Counts.{less_true, most_true, most_false}
+use Rattle.plane.proofs.Lists.{any_none, covers_cases}
 use Rattle.hulls.specs.Cells.{around}
 use Rattle.hulls.proofs.Around.{around_holds}
 use Rattle.fill_rules.proofs.Heights.{Row, row, height, test_left, test_right, low_cross, high_cross}

@@ -5,7 +5,7 @@ use Rattle.std.proofs.Common.{mul_comm, ◌≡◌, refl, sym, ◌∙◌, ap, ℕ
 use Rattle.std.specs.Prelude.{ℤ, pos, negsuc, ◌+ℤ◌, ◌-ℤ◌, ◌*ℤ◌, ◌≤ℤ◌, ◌<ℤ◌}
 use Rattle.std.proofs.lemmas.Int.{ints}
 use Rattle.plane.specs.Plane.{PlanePoint, Bounds, Within, In}
-use Rattle.plane.proofs.Times.{mul_suc, mul_le, mul_add, mul_sub, mul_le_back}
+use Rattle.grid_num.proofs.Products.{mul_suc, mul_le, mul_add, mul_sub, mul_le_back}
 use Rattle.plane.proofs.Points.{mul_mul}
 
 pub scale_add : (m n : ℕ) (f : ℤ) → pos (m + n) *ℤ f ≡ pos m *ℤ f +ℤ pos n *ℤ f

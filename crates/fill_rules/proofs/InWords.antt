@@ -4,7 +4,7 @@ use Rattle.std.specs.Prelude.{◌↔◌, max, ℤ, pos, neg_ℤ, ◌+ℤ◌, ◌
 use Rattle.std.proofs.lemmas.Int.{ints}
 use Rattle.std.proofs.lemmas.Bool.{cases_lt}
 use Rattle.plane.specs.Plane.{PlanePoint, Bounds, In, box_of}
-use Rattle.plane.proofs.Times.{mul_neg}
+use Rattle.grid_num.proofs.Products.{mul_neg}
 use Rattle.plane.proofs.Moved.{box_law}
 use Rattle.fill_rules.specs.Needs.{units}
 use Rattle.fill_rules.specs.InWords.{UnitsLaw, ItemNeedLaw, ZoneNeedLaw, IsGreatest, East, South, West, North, IsInSpoke, AreSpokes, SpokesLaw, GapLaw}

@@ -14,7 +14,7 @@ use Rattle.hulls.proofs.Edges.{segment_law, chord_disc_law}
 use Rattle.classes.specs.Classes.{IsOneOf}
 use Rattle.board_language.specs.Board.{Board}
 use Rattle.fill_rules.specs.Tasks.{Settings, zone_at, layer_at, has_layer}
-use Rattle.fill_rules.specs.Needs.{is_foreign, item_need, edge_need, track_copper, via_copper, hulls_round, pad_hulls, role, is_on, is_barred, Need, at_need, when, track_needs, via_needs, pad_needs, edge_needs, item_needs}
+use Rattle.fill_rules.specs.Needs.{is_foreign, item_need, edge_need, track_copper, via_copper, hulls_round, pad_hulls, role, is_on, is_barred, Need, at_need, keep_when, track_needs, via_needs, pad_needs, edge_needs, item_needs}
 use Rattle.fill_rules.specs.Fill.{Fills, brush_at, IsClear, InFill, fill_of}
 use Rattle.fill_rules.specs.InWords.{IsApart, IsBarred, CopperKeptLaw, EdgeKeptLaw, ArcKeptLaw, ZoneKeptLaw}
 use Rattle.fill_rules.proofs.Members.{append_left, append_right, flat_one_of, is_when, map_one_of, some_one_of}
@@ -37,7 +37,7 @@ both false y e f = absurd (true≢false (sym e))
 abbrev need : ℕ → Bounds → Need
 need n h = record { oct = h; need = n }
 
-put_need : (b : Bool) (n : ℕ) (h : Bounds) (hs : List Bounds) → b ≡ true → IsOneOf h hs → IsOneOf (need n h) (when b (at_need n hs))
+put_need : (b : Bool) (n : ℕ) (h : Bounds) (hs : List Bounds) → b ≡ true → IsOneOf h hs → IsOneOf (need n h) (keep_when b (at_need n hs))
 put_need b n h hs e i = is_when b (need n h) (at_need n hs) e (map_one_of (need n) h hs i)
 
 module _ (b : Board) (z : Settings) (l : ℕ) where

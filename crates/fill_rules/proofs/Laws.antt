@@ -55,7 +55,7 @@ kept_together b above i c d k r =
 meeting_at_back : (octs : List Bounds) (j k : ℕ) → IsMeetingAt octs j k → IsMeetingAt octs k j
 meeting_at_back octs j k m = record { first = m.second; second = m.first; at_first = m.at_second; at_second = m.at_first; meet = meeting_back m.first m.second m.meet }
 
-up_to_one : (j k : ℕ) → IsUpTo j k → IsUpTo k j → j ≡ k
+pub up_to_one : (j k : ℕ) → IsUpTo j k → IsUpTo k j → j ≡ k
 up_to_one j k l m = omega arith
 
 -- two pieces have one label exactly where they are in one part

@@ -19,3 +19,5 @@ pub mod SameTasks
 pub mod Beside
 pub mod Edits
 pub mod ZoneEdits
+pub mod Clusters
+pub mod ClusterMembers

@@ -1,9 +1,9 @@
 -- The members of lists.
-use Rattle.std.proofs.Common.{◌≡◌, refl, sym, ap, subst, map, ℕ, zero, suc, ◌⊎◌, inl, inr, List, [], ◌∷◌, ◌++◌, get_or}
+use Rattle.std.proofs.Common.{◌≡◌, refl, sym, ap, subst, map, ℕ, zero, suc, ◌<◌, ◌⊎◌, inl, inr, List, [], ◌∷◌, ◌++◌, length, get_or, arith}
 use Rattle.std.specs.Prelude.{Bool, true, false, flat_map, Any}
 use Rattle.classes.specs.Classes.{IsOneOf}
-use Rattle.covering.proofs.Lists.{any_none, any_cases}
-use Rattle.fill_rules.specs.Needs.{when}
+use Rattle.plane.proofs.Lists.{any_none, any_cases}
+use Rattle.fill_rules.specs.Needs.{keep_when}
 
 pub one_of_append : {A : Type 0} (x : A) (xs ys : List A) → IsOneOf x (xs ++ ys) → IsOneOf x xs ⊎ IsOneOf x ys
 unfolding IsOneOf
@@ -19,7 +19,7 @@ one_of_flat f x (a ∷ as_) h = elim (one_of_append x (f a) (flat_map f as_) h) 
   | inr j ↦ let r = one_of_flat f x as_ j in (r.0, inr r.1, r.2)
 ]
 
-pub one_of_when : {A : Type 0} (b : Bool) (x : A) (xs : List A) → IsOneOf x (when b xs) → IsOneOf x xs
+pub one_of_when : {A : Type 0} (b : Bool) (x : A) (xs : List A) → IsOneOf x (keep_when b xs) → IsOneOf x xs
 unfolding IsOneOf
 one_of_when true x xs h = h
 one_of_when false x xs h = absurd h
@@ -48,13 +48,13 @@ flat_one_of f x a [] h g = absurd h
 flat_one_of {A} {B} f x a (b ∷ as_) (inl e) g = append_left x (f b) (flat_map f as_) (subst (λ (c : A). IsOneOf x (f c)) e g)
 flat_one_of f x a (b ∷ as_) (inr i) g = append_right x (f b) (flat_map f as_) (flat_one_of f x a as_ i g)
 
-pub when_is : {A : Type 0} (b : Bool) (x : A) (xs : List A) → IsOneOf x (when b xs) → (b ≡ true) × IsOneOf x xs
+pub when_is : {A : Type 0} (b : Bool) (x : A) (xs : List A) → IsOneOf x (keep_when b xs) → (b ≡ true) × IsOneOf x xs
 unfolding IsOneOf
 when_is true x xs h = (refl, h)
 when_is false x xs h = absurd h
 
-pub is_when : {A : Type 0} (b : Bool) (x : A) (xs : List A) → b ≡ true → IsOneOf x xs → IsOneOf x (when b xs)
-is_when b x xs e h = subst (λ (c : Bool). IsOneOf x (when c xs)) (sym e) h
+pub is_when : {A : Type 0} (b : Bool) (x : A) (xs : List A) → b ≡ true → IsOneOf x xs → IsOneOf x (keep_when b xs)
+is_when b x xs e h = subst (λ (c : Bool). IsOneOf x (keep_when c xs)) (sym e) h
 
 pub one_of_map : {A B : Type 0} (f : A → B) (y : B) (xs : List A) → IsOneOf y (map f xs) → (x : A) × IsOneOf x xs × (y ≡ f x)
 unfolding IsOneOf
@@ -76,3 +76,13 @@ some_one_of P (x ∷ xs) a = elim (any_cases P x xs a) [
   | inl h ↦ (x, inl refl, h)
   | inr r ↦ let s = some_one_of P xs r in (s.0, inr s.1, s.2)
 ]
+
+-- lists of one length are the same where each of their items is
+pub same_lists : {X : Type 0} (d : X) (xs ys : List X) → length xs ≡ length ys → ((i : ℕ) → i < length xs → get_or xs i d ≡ get_or ys i d) → xs ≡ ys
+same_lists d [] [] e h = refl
+same_lists d [] (y ∷ ys) e h = absurd (omega (arith, e))
+same_lists d (x ∷ xs) [] e h = absurd (omega (arith, e))
+same_lists d (x ∷ xs) (y ∷ ys) e h =
+    let head : x ≡ y = h zero (omega arith) in
+    let tail : xs ≡ ys = same_lists d xs ys (omega (arith, e)) (λ i l. h (suc i) (omega (arith, l))) in
+    λ j. head j ∷ tail j

@@ -5,12 +5,12 @@ use Rattle.std.specs.Prelude.{ℤ, pos, ◌+ℤ◌, ◌-ℤ◌, ◌*ℤ◌, ◌�
 use Rattle.std.specs.List.{All}
 use Rattle.std.proofs.lemmas.Int.{ints, by_lt_z}
 use Rattle.plane.specs.Plane.{PlanePoint, Bounds, Within, In, times}
-use Rattle.plane.proofs.Times.{mul_le, mul_add, mul_sub}
+use Rattle.grid_num.proofs.Products.{mul_le, mul_add, mul_sub}
 use Rattle.grid_num.specs.declared.Point.{Point}
-use Rattle.covering.specs.Covering.{Edge, IsOn, Between, edges_to}
-use Rattle.covering.proofs.Laws.{pull}
-use Rattle.covering.proofs.On.{on_upright}
-use Rattle.covering.proofs.Lists.{any_none, any_cases}
+use Rattle.plane.specs.Covering.{Edge, IsOn, Between, edges_to}
+use Rattle.plane.proofs.CoverLaws.{pull}
+use Rattle.plane.proofs.On.{on_upright}
+use Rattle.plane.proofs.Lists.{any_none, any_cases}
 use Rattle.touching.proofs.Ring.{distrib_sub, times_diff}
 use Rattle.fill_rules.proofs.Heights.{row, height, test_left, test_right, IsMean, mean_in}
 

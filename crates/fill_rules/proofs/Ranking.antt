@@ -6,7 +6,7 @@ use Rattle.std.proofs.lemmas.Bool.Decides.{nat_tests}
 use Rattle.classes.specs.Classes.{IsOneOf}
 use Rattle.board_language.specs.declared.board.Zone.{Zone}
 use Rattle.board_language.specs.Board.{Board}
-use Rattle.fill_rules.specs.Tasks.{Task, no_zone, has_layer, layers_below, tasks_from, zone_of, put, put_all, ranked}
+use Rattle.fill_rules.specs.Tasks.{Task, no_zone, has_layer, layers_below, tasks_from, task_zone, put_by_priority, put_all, ranked}
 use Rattle.fill_rules.specs.Ranking.{IsFiled, Outranks, IsSortedBy, IsRanking}
 use Rattle.fill_rules.proofs.Members.{one_of_append, append_left, append_right, one_of_map, map_one_of}
 
@@ -138,51 +138,51 @@ le_true a b e = grind (arith, nat_tests)
 le_false : (a b : ℕ) → nat_le a b ≡ false → b < a
 le_false a b e = grind (arith, nat_tests)
 
-outranks_by : (b : Board) (t y : Task) → (zone_of b y).priority ≤ (zone_of b t).priority → IsFiled t y → Outranks b t y
-outranks_by b t y h f = elim (cases_lt (zone_of b y).priority (zone_of b t).priority) [
+outranks_by : (b : Board) (t y : Task) → (task_zone b y).priority ≤ (task_zone b t).priority → IsFiled t y → Outranks b t y
+outranks_by b t y h f = elim (cases_lt (task_zone b y).priority (task_zone b t).priority) [
   | inl l ↦ inl l
   | inr g ↦ inr (omega arith, f)
 ]
 
-outranks_le : (b : Board) (s t : Task) → Outranks b s t → (zone_of b t).priority ≤ (zone_of b s).priority
+outranks_le : (b : Board) (s t : Task) → Outranks b s t → (task_zone b t).priority ≤ (task_zone b s).priority
 outranks_le b s t (inl h) = omega arith
 outranks_le b s t (inr (e, f)) = omega (arith, e)
 
 abbrev IsPut : Task → List Task → Task → Type 0
 IsPut t us x = (x ≡ t) ⊎ IsOneOf x us
 
-put_are : (b : Board) (t : Task) (us : List Task) (x : Task) → IsOneOf x (put b t us) → IsPut t us x
+put_are : (b : Board) (t : Task) (us : List Task) (x : Task) → IsOneOf x (put_by_priority b t us) → IsPut t us x
 unfolding IsOneOf
 put_are b t [] x h = h
-put_are b t (u ∷ us) x h = pick (nat_le (zone_of b u).priority (zone_of b t).priority) h (put_are b t us x)
+put_are b t (u ∷ us) x h = pick (nat_le (task_zone b u).priority (task_zone b t).priority) h (put_are b t us x)
   where
-    pick : (c : Bool) → IsOneOf x (cond c (t ∷ u ∷ us) (u ∷ put b t us)) → (IsOneOf x (put b t us) → IsPut t us x) → IsPut t (u ∷ us) x
+    pick : (c : Bool) → IsOneOf x (cond c (t ∷ u ∷ us) (u ∷ put_by_priority b t us)) → (IsOneOf x (put_by_priority b t us) → IsPut t us x) → IsPut t (u ∷ us) x
     pick true i k = i
     pick false (inl e) k = inr (inl e)
     pick false (inr i) k = elim (k i) [ inl e ↦ inl e | inr j ↦ inr (inr j) ]
 
-put_have : (b : Board) (t : Task) (us : List Task) (x : Task) → IsPut t us x → IsOneOf x (put b t us)
+put_have : (b : Board) (t : Task) (us : List Task) (x : Task) → IsPut t us x → IsOneOf x (put_by_priority b t us)
 unfolding IsOneOf
 put_have b t [] x h = h
-put_have b t (u ∷ us) x h = pick (nat_le (zone_of b u).priority (zone_of b t).priority) h (put_have b t us x)
+put_have b t (u ∷ us) x h = pick (nat_le (task_zone b u).priority (task_zone b t).priority) h (put_have b t us x)
   where
-    pick : (c : Bool) → IsPut t (u ∷ us) x → (IsPut t us x → IsOneOf x (put b t us)) → IsOneOf x (cond c (t ∷ u ∷ us) (u ∷ put b t us))
+    pick : (c : Bool) → IsPut t (u ∷ us) x → (IsPut t us x → IsOneOf x (put_by_priority b t us)) → IsOneOf x (cond c (t ∷ u ∷ us) (u ∷ put_by_priority b t us))
     pick true i k = i
     pick false (inl e) k = inr (k (inl e))
     pick false (inr (inl e)) k = inl e
     pick false (inr (inr i)) k = inr (k (inr i))
 
-put_sorted : (b : Board) (t : Task) (us : List Task) → ((y : Task) → IsOneOf y us → IsFiled t y) → IsSortedBy (Outranks b) us → IsSortedBy (Outranks b) (put b t us)
+put_sorted : (b : Board) (t : Task) (us : List Task) → ((y : Task) → IsOneOf y us → IsFiled t y) → IsSortedBy (Outranks b) us → IsSortedBy (Outranks b) (put_by_priority b t us)
 unfolding IsSortedBy IsOneOf
 put_sorted b t [] f h = (λ y i. absurd i, tt)
-put_sorted b t (u ∷ us) f h = pick (nat_le (zone_of b u).priority (zone_of b t).priority) refl (put_sorted b t us (λ y i. f y (inr i)) h.1)
+put_sorted b t (u ∷ us) f h = pick (nat_le (task_zone b u).priority (task_zone b t).priority) refl (put_sorted b t us (λ y i. f y (inr i)) h.1)
   where
-    pick : (c : Bool) → nat_le (zone_of b u).priority (zone_of b t).priority ≡ c → IsSortedBy (Outranks b) (put b t us) → IsSortedBy (Outranks b) (cond c (t ∷ u ∷ us) (u ∷ put b t us))
+    pick : (c : Bool) → nat_le (task_zone b u).priority (task_zone b t).priority ≡ c → IsSortedBy (Outranks b) (put_by_priority b t us) → IsSortedBy (Outranks b) (cond c (t ∷ u ∷ us) (u ∷ put_by_priority b t us))
     pick true e k = (
       λ y i. elim i [
         | inl q ↦ subst (Outranks b t) (sym q) (outranks_by b t u (le_true _ _ e) (f u (inl refl)))
-        | inr j ↦ let a : (zone_of b y).priority ≤ (zone_of b u).priority = outranks_le b u y (h.0 y j) in
-            let c : (zone_of b u).priority ≤ (zone_of b t).priority = le_true _ _ e in
+        | inr j ↦ let a : (task_zone b y).priority ≤ (task_zone b u).priority = outranks_le b u y (h.0 y j) in
+            let c : (task_zone b u).priority ≤ (task_zone b t).priority = le_true _ _ e in
             outranks_by b t y (omega arith) (f y (inr j))
       ],
       h,
@@ -212,7 +212,7 @@ all_sorted b [] h = tt
 all_sorted b (t ∷ ts) h = put_sorted b t (put_all b ts) (λ y i. h.0 y (all_are b ts y i)) (all_sorted b ts h.1)
 
 pub ranked_is : (b : Board) → IsRanking b (ranked b)
-unfolding ranked zone_of
+unfolding ranked task_zone
 ranked_is b = record {
   members = λ t. (
     λ i.

@@ -2,20 +2,21 @@
 use Rattle.std.proofs.Common.{◌≡◌, refl, sym, ◌∙◌, ap, subst, ℕ, zero, suc, ◌+◌, ◌≤◌, ◌<◌, inl, inr, arith, lit≤, List, [], ◌∷◌, get_or, length}
 use Rattle.std.specs.Prelude.{ℤ, pos, ◌+ℤ◌, ◌≤ℤ◌, ◌<ℤ◌, ◌↔◌}
 use Rattle.std.proofs.lemmas.Int.{ints}
-use Rattle.plane.specs.Plane.{PlanePoint, Bounds, Within, In, StrictlyIn, ball_of, box_of, grid_point, up2_of, AreNear}
-use Rattle.plane.proofs.Near.{lt_up2}
+use Rattle.plane.specs.Plane.{PlanePoint, Bounds, Within, In, StrictlyIn, ball_of, box_of, grid_point, AreNear}
+use Rattle.grid_num.specs.Roots.{up2_of}
+use Rattle.grid_num.proofs.Roots.{lt_up2}
 use Rattle.classes.specs.Classes.{IsOneOf}
 use Rattle.grid_num.specs.declared.Point.{Point}
-use Rattle.covering.specs.Covering.{IsOn, Covers, edges_of}
-use Rattle.covering.proofs.Lists.{any_none, covers_cases}
+use Rattle.plane.specs.Covering.{IsOn, Covers, edges_of}
+use Rattle.plane.proofs.Lists.{any_none, covers_cases}
 use Rattle.hulls.specs.Cells.{floor_of, around}
 use Rattle.board_language.specs.declared.board.Pad.{Pad}
 use Rattle.board_language.specs.declared.board.Zone.{Zone}
 use Rattle.board_language.specs.Board.{Board}
-use Rattle.fill_rules.specs.Tasks.{Task, Settings, ranked, task_at, zone_of, zone_at, layer_at, no_zone, no_task}
-use Rattle.fill_rules.specs.Needs.{when, pad_hulls}
+use Rattle.fill_rules.specs.Tasks.{Task, Settings, ranked, task_at, task_zone, zone_at, layer_at, no_zone, no_task}
+use Rattle.fill_rules.specs.Needs.{keep_when, pad_hulls}
 use Rattle.fill_rules.specs.Reliefs.{brush_radius, gap_of, half_bridge, spokes_by, pad_spokes, spokes_of, is_thermal}
-use Rattle.fill_rules.specs.Fill.{Fills, brush_at, Fits, IsLive, InFill, fill_of, reaching}
+use Rattle.fill_rules.specs.Fill.{Fills, brush_at, Fits, IsLive, InFill, fill_of, reaching_fills}
 use Rattle.fill_rules.specs.Sound.{IsSound}
 use Rattle.fill_rules.proofs.Same.{IsUsed, Clears, fill_map, clears_fewer}
 use Rattle.fill_rules.proofs.Fills.{fills_meet}
@@ -28,7 +29,7 @@ IsThick : Zone → Type 0
 IsThick z = 1000 ≤ z.thickness
 
 thick_at : (b : Board) → IsSound b → (i : ℕ) → 1 ≤ brush_radius (zone_at b i)
-unfolding IsThick zone_of zone_at
+unfolding IsThick task_zone zone_at
 thick_at b s i =
     let t : 1000 ≤ (zone_at b i).thickness = get_or_is IsThick b.zones (task_at b i).zone no_zone (lit≤ tt) s.thick in
     omega arith
@@ -97,7 +98,7 @@ spoke_solid : (b : Board) → IsSound b → (i : ℕ) (o : Bounds) → IsOneOf o
 unfolding spokes_of
 spoke_solid b s i o h =
     let z = zone_at b i in
-    let f = one_of_flat (λ (p : Pad). when (is_thermal z (layer_at b i) p) (pad_spokes z p)) o b.pads h in
+    let f = one_of_flat (λ (p : Pad). keep_when (is_thermal z (layer_at b i) p) (pad_spokes z p)) o b.pads h in
     pad_solid z f.0 (thick_at b s i) (s.centred f.0 f.1) o (one_of_when (is_thermal z (layer_at b i) f.0) o (pad_spokes z f.0) f.2)
 
 used_solid : (b : Board) → IsSound b → (i : ℕ) (o : Bounds) → IsUsed b i o → IsSolid o
@@ -131,7 +132,7 @@ get_or_past (x ∷ xs) zero d l = absurd (omega (arith, l))
 get_or_past (x ∷ xs) (suc n) d l = get_or_past xs n d (omega (arith, l))
 
 no_outline : (b : Board) (i : ℕ) → length (ranked b) ≤ i → (zone_at b i).outline ≡ []
-unfolding zone_at zone_of task_at
+unfolding zone_at task_zone task_at
 no_outline b i l =
     ap (λ (t : Task). (get_or b.zones t.zone no_zone).outline) (get_or_past (ranked b) i (no_task b) l)
     ∙ ap (λ (z : Zone). z.outline) (get_or_past b.zones (length b.zones) no_zone (omega arith))
@@ -152,7 +153,7 @@ no_fill b s above i p l (inr (o, v, n, w)) = nothing_fits b s i o l (inr v.spoke
 
 -- ---- the reaching tasks alone
 clears_reaching : (b : Board) → IsSound b → (fills : Fills) → ((j : ℕ) (p : PlanePoint) → fills j p → InFrame b j p)
-    → (i : ℕ) → Clears b (reaching b fills i) fills i
+    → (i : ℕ) → Clears b (reaching_fills b fills i) fills i
 unfolding AreNear
 clears_reaching b s fills f i o u t c = record {
   items = c.items;
@@ -164,13 +165,13 @@ clears_reaching b s fills f i o u t c = record {
 
 -- the fill over all fills above is the fill over those of the reaching tasks
 pub reaching_enough : (b : Board) → IsSound b → (fills : Fills) → ((j : ℕ) (p : PlanePoint) → fills j p → InFrame b j p)
-    → (i : ℕ) (p : PlanePoint) → InFill b fills i p ↔ InFill b (reaching b fills i) i p
+    → (i : ℕ) (p : PlanePoint) → InFill b fills i p ↔ InFill b (reaching_fills b fills i) i p
 reaching_enough b s fills f i p =
     let h = clears_reaching b s fills f i in
-    let k = clears_fewer b fills (reaching b fills i) i (λ j q l a. a.1) in
-    (fill_map b fills (reaching b fills i) i k h p, fill_map b (reaching b fills i) fills i h k p)
+    let k = clears_fewer b fills (reaching_fills b fills i) i (λ j q l a. a.1) in
+    (fill_map b fills (reaching_fills b fills i) i k h p, fill_map b (reaching_fills b fills i) fills i h k p)
 
-pub fill_by_reaching : (b : Board) → IsSound b → (i : ℕ) (p : PlanePoint) → fill_of b i p ↔ InFill b (reaching b (fill_of b) i) i p
+pub fill_by_reaching : (b : Board) → IsSound b → (i : ℕ) (p : PlanePoint) → fill_of b i p ↔ InFill b (reaching_fills b (fill_of b) i) i p
 fill_by_reaching b s i p =
     let m = fills_meet b in
     let r = reaching_enough b s (fill_of b) (λ j q h. fill_in_frame b s (fill_of b) j q ((m j q).0 h)) i p in

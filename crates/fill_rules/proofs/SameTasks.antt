@@ -6,7 +6,7 @@ use Rattle.hulls.specs.Cells.{around}
 use Rattle.board_language.specs.declared.board.Rules.{Rules}
 use Rattle.board_language.specs.declared.board.Zone.{Zone}
 use Rattle.board_language.specs.Board.{Board}
-use Rattle.fill_rules.specs.Tasks.{Task, Settings, settings_of, no_zone, no_task, layers_below, tasks_from, zone_of, put, put_all, ranked, task_at, zone_at, layer_at}
+use Rattle.fill_rules.specs.Tasks.{Task, Settings, settings_of, no_zone, no_task, layers_below, tasks_from, task_zone, put_by_priority, put_all, ranked, task_at, zone_at, layer_at}
 use Rattle.fill_rules.specs.Needs.{is_foreign, units, zone_need}
 use Rattle.std.specs.Prelude.{max}
 use Rattle.fill_rules.specs.Reach.{IsReaching}
@@ -38,24 +38,24 @@ as_many : (ys zs : List Zone) → map placing ys ≡ map placing zs → length y
 as_many ys zs e = sym (map_length ys) ∙ (ap (λ (ps : List Placing). length ps) e ∙ map_length zs)
 
 abbrev rank_of : Board → Task → ℕ
-rank_of b t = (zone_of b t).priority
+rank_of b t = (task_zone b t).priority
 
-placing_is : (b d : Board) → HaveSamePlaces b d → (t : Task) → placing (zone_of b t) ≡ placing (zone_of d t)
-unfolding zone_of
+placing_is : (b d : Board) → HaveSamePlaces b d → (t : Task) → placing (task_zone b t) ≡ placing (task_zone d t)
+unfolding task_zone
 placing_is b d e t =
     get_or_map placing b.zones t.zone no_zone
     ∙ (ap (λ (zs : List Placing). get_or zs t.zone (placing no_zone)) e ∙ sym (get_or_map placing d.zones t.zone no_zone))
 
-put_same : (b d : Board) → ((t : Task) → rank_of b t ≡ rank_of d t) → (t : Task) (us : List Task) → put b t us ≡ put d t us
+put_same : (b d : Board) → ((t : Task) → rank_of b t ≡ rank_of d t) → (t : Task) (us : List Task) → put_by_priority b t us ≡ put_by_priority d t us
 put_same b d h t [] = refl
 put_same b d h t (u ∷ us) =
     ap (λ (x : List Task). cond (nat_le (rank_of b u) (rank_of b t)) (t ∷ u ∷ us) (u ∷ x)) (put_same b d h t us)
-    ∙ (ap (λ (n : ℕ). cond (nat_le n (rank_of b t)) (t ∷ u ∷ us) (u ∷ put d t us)) (h u)
-    ∙ ap (λ (n : ℕ). cond (nat_le (rank_of d u) n) (t ∷ u ∷ us) (u ∷ put d t us)) (h t))
+    ∙ (ap (λ (n : ℕ). cond (nat_le n (rank_of b t)) (t ∷ u ∷ us) (u ∷ put_by_priority d t us)) (h u)
+    ∙ ap (λ (n : ℕ). cond (nat_le (rank_of d u) n) (t ∷ u ∷ us) (u ∷ put_by_priority d t us)) (h t))
 
 put_all_same : (b d : Board) → ((t : Task) → rank_of b t ≡ rank_of d t) → (ts : List Task) → put_all b ts ≡ put_all d ts
 put_all_same b d h [] = refl
-put_all_same b d h (t ∷ ts) = ap (λ (x : List Task). put b t x) (put_all_same b d h ts) ∙ put_same b d h t (put_all d ts)
+put_all_same b d h (t ∷ ts) = ap (λ (x : List Task). put_by_priority b t x) (put_all_same b d h ts) ∙ put_same b d h t (put_all d ts)
 
 module _ (b d : Board) (layers : length b.layers ≡ length d.layers) (e : HaveSamePlaces b d) where
   ranked_same : ranked b ≡ ranked d
@@ -108,8 +108,8 @@ places_is (z ∷ zones) = ap (λ (ps : List Placing). placing z ∷ ps) (places_
 places_same : (b d : Board) → HaveSame b d → HaveSamePlaces b d
 places_same b d e = places_is b.zones ∙ (ap (map place_of) e ∙ sym (places_is d.zones))
 
-counting_is : (b d : Board) → HaveSame b d → (t : Task) → counting (zone_of b t) ≡ counting (zone_of d t)
-unfolding zone_of
+counting_is : (b d : Board) → HaveSame b d → (t : Task) → counting (task_zone b t) ≡ counting (task_zone d t)
+unfolding task_zone
 counting_is b d e t =
     get_or_map counting b.zones t.zone no_zone
     ∙ (ap (λ (zs : List Counting). get_or zs t.zone (counting no_zone)) e ∙ sym (get_or_map counting d.zones t.zone no_zone))
@@ -122,7 +122,7 @@ module _ (b d : Board) (layers : length b.layers ≡ length d.layers) (e : HaveS
   unfolding zone_at
   zone_same i =
       ap (λ (c : Counting). c.settings) (counting_is b d e (task_at b i)
-      ∙ ap (λ (t : Task). counting (zone_of d t)) (task_same b d layers (places_same b d e) i))
+      ∙ ap (λ (t : Task). counting (task_zone d t)) (task_same b d layers (places_same b d e) i))
 
   pub need_same : b.rules ≡ d.rules → (j k : ℕ) → zone_need b (zone_at b j) (zone_at b k) ≡ zone_need d (zone_at d j) (zone_at d k)
   need_same r j k = need_by b d r j k (zone_same j) (zone_same k)
@@ -132,7 +132,7 @@ module _ (b d : Board) (layers : length b.layers ≡ length d.layers) (e : HaveS
 
 -- ---- boards whose zones are the same but for one
 pub other_same : (b d : Board) (n : ℕ) → IsSameButZone b d n → (i : ℕ) → ((task_at d i).zone ≡ n → ⊥) → zone_at b i ≡ zone_at d i
-unfolding zone_at zone_of
+unfolding zone_at task_zone
 other_same b d n s i ne =
     ap (λ (t : Task). settings_of (get_or b.zones t.zone no_zone)) (task_same b d s.layers s.places i)
     ∙ s.others (task_at d i).zone ne

@@ -12,7 +12,7 @@ use Rattle.fill_rules.specs.Needs.{pad_hulls}
 use Rattle.fill_rules.specs.Sound.{HasPad, SoundLaw}
 
 -- a quarter of twice as much, rounded down, is the half
-halved : (x : ℤ) → floor_of 4 (x +ℤ x) ≡ floor_of 2 x
+pub halved : (x : ℤ) → floor_of 4 (x +ℤ x) ≡ floor_of 2 x
 unfolding floor_of
 halved (pos a) = ap pos (quarter a)
   where
@@ -23,13 +23,13 @@ halved (negsuc a) = ap negsuc (quarter a)
     quarter : (a : ℕ) → suc (a + a) / 4 ≡ a / 2
     quarter a = omega arith
 
-all_one_of : {A : Type 0} (P : A → Type 0) (xs : List A) (x : A) → All P xs → IsOneOf x xs → P x
+pub all_one_of : {A : Type 0} (P : A → Type 0) (xs : List A) (x : A) → All P xs → IsOneOf x xs → P x
 unfolding IsOneOf
 all_one_of P [] x h i = absurd i
 all_one_of P (y ∷ xs) x h (inl e) = subst P (sym e) (h 0 y (omega arith))
 all_one_of P (y ∷ xs) x h (inr i) = all_one_of P xs x (λ k d l. h (suc k) d (omega (arith, l))) i
 
-centred : (p : Pad) → HasPad p → (h : Bounds) → IsOneOf h (pad_hulls p) → Within h (floor_of 2 p.at.x) (floor_of 2 p.at.y)
+pub centred : (p : Pad) → HasPad p → (h : Bounds) → IsOneOf h (pad_hulls p) → Within h (floor_of 2 p.at.x) (floor_of 2 p.at.y)
 unfolding pad_hulls
 centred p w h i =
     let x = p.at.x +ℤ p.at.x in

@@ -11,7 +11,7 @@ use Rattle.fill_rules.specs.Tasks.{Settings, task_at, zone_at, layer_at}
 use Rattle.fill_rules.specs.Needs.{units, item_need, Need, item_needs}
 use Rattle.fill_rules.specs.Anchors.{IsTouching, anchors_of}
 use Rattle.fill_rules.specs.Reach.{IsReaching}
-use Rattle.fill_rules.specs.Dirty.{IsUntouched}
+use Rattle.fill_rules.specs.Dirty.{unlined, IsUntouched}
 use Rattle.fill_rules.specs.Edits.{unplaced, unplaced_via, AreAmong, IsSameButZone, SettingsLaw}
 use Rattle.fill_rules.proofs.Members.{map_one_of}
 use Rattle.fill_rules.proofs.SameTasks.{layer_by, need_by, reach_by, other_same}
@@ -24,6 +24,42 @@ among_same alike xs ys e x i = inl (subst (IsOneOf (alike x)) e (map_one_of alik
 none : {A : Type 0} (x : A) → IsOneOf x [] → ⊥
 unfolding IsOneOf
 none x i = i
+
+-- two boards whose copper differs at most in where it stands in the text, under the same rules
+pub record HasSameItems (b d : Board) : Type 0 where
+  pub rules : b.rules ≡ d.rules
+  pub tracks : map unplaced b.tracks ≡ map unplaced d.tracks
+  pub vias : map unplaced_via b.vias ≡ map unplaced_via d.vias
+  pub pads : map unlined b.pads ≡ map unlined d.pads
+  pub edges : b.edges ≡ d.edges
+
+-- what a zone of these settings keeps away from there, near its frame, and what anchors it there
+module _ (b d : Board) (s : HasSameItems b d) (one : 1 ≤ d.rules.floor) (z : Settings) (l : ℕ) where
+  positive : 1 ≤ item_need d z 0
+  positive = omega (arith, one)
+
+  positive_before : 1 ≤ item_need b z 0
+  positive_before = subst (λ (r : Rules). 1 ≤ units (max (max z.clearance 0) r.floor)) (sym s.rules) positive
+
+  pub items_there : (m : Need) → AreNear m.need (around z.outline) m.oct → IsOneOf m (item_needs b z l) → IsOneOf m (item_needs d z l)
+  items_there m w i =
+      items_to b d [] [] s.rules (among_same unplaced b.tracks d.tracks s.tracks) (among_same unplaced_via b.vias d.vias s.vias) s.pads s.edges
+      z l (around z.outline) (λ t i. absurd (none t i)) (λ v i. absurd (none v i)) m w i
+
+  pub items_back : (m : Need) → AreNear m.need (around z.outline) m.oct → IsOneOf m (item_needs d z l) → IsOneOf m (item_needs b z l)
+  items_back m w i =
+      items_to d b [] [] (sym s.rules) (among_same unplaced d.tracks b.tracks (sym s.tracks)) (among_same unplaced_via d.vias b.vias (sym s.vias)) (sym s.pads) (sym s.edges)
+      z l (around z.outline) (λ t i. absurd (none t i)) (λ v i. absurd (none v i)) m w i
+
+  pub anchors_there : (c : Copper) (o : Bounds) → IsTouching c o → ((p : PlanePoint) → In o p → In (around z.outline) p) → IsOneOf c (anchors_of b z l) → IsOneOf c (anchors_of d z l)
+  anchors_there c o t inside i =
+      anchors_to b d [] [] s.rules (among_same unplaced b.tracks d.tracks s.tracks) (among_same unplaced_via b.vias d.vias s.vias) s.pads s.edges
+      z l (around z.outline) (λ t i. absurd (none t i)) (λ v i. absurd (none v i)) positive_before c o t inside i
+
+  pub anchors_back : (c : Copper) (o : Bounds) → IsTouching c o → ((p : PlanePoint) → In o p → In (around z.outline) p) → IsOneOf c (anchors_of d z l) → IsOneOf c (anchors_of b z l)
+  anchors_back c o t inside i =
+      anchors_to d b [] [] (sym s.rules) (among_same unplaced d.tracks b.tracks (sym s.tracks)) (among_same unplaced_via d.vias b.vias (sym s.vias)) (sym s.pads) (sym s.edges)
+      z l (around z.outline) (λ t i. absurd (none t i)) (λ v i. absurd (none v i)) positive c o t inside i
 
 module _ (b d : Board) (n : ℕ) (s : IsSameButZone b d n) (one : 1 ≤ d.rules.floor) (k : ℕ) (other : (task_at d k).zone ≡ n → ⊥)
     (clean : (j : ℕ) → (task_at d j).zone ≡ n → IsReaching b j k ⊎ IsReaching d j k → ⊥)
@@ -40,31 +76,8 @@ module _ (b d : Board) (n : ℕ) (s : IsSameButZone b d n) (one : 1 ≤ d.rules.
     as_back : (P : Settings → ℕ → Type 0) → P (zone_at d k) (layer_at d k) → P (zone_at b k) (layer_at b k)
     as_back P h = subst (λ (l : ℕ). P (zone_at b k) l) (sym (layer_as k)) (subst (λ (z : Settings). P z (layer_at d k)) (sym zone_as) h)
 
-    positive : 1 ≤ item_need d (zone_at d k) 0
-    positive = omega (arith, one)
-
-    positive_before : 1 ≤ item_need b (zone_at d k) 0
-    positive_before = subst (λ (r : Rules). 1 ≤ units (max (max (zone_at d k).clearance 0) r.floor)) (sym s.rules) positive
-
-    items_there : (m : Need) → AreNear m.need (around (zone_at d k).outline) m.oct → IsOneOf m (item_needs b (zone_at d k) (layer_at d k)) → IsOneOf m (item_needs d (zone_at d k) (layer_at d k))
-    items_there m w i =
-        items_to b d [] [] s.rules (among_same unplaced b.tracks d.tracks s.tracks) (among_same unplaced_via b.vias d.vias s.vias) s.pads s.edges
-        (zone_at d k) (layer_at d k) (around (zone_at d k).outline) (λ t i. absurd (none t i)) (λ v i. absurd (none v i)) m w i
-
-    items_back : (m : Need) → AreNear m.need (around (zone_at d k).outline) m.oct → IsOneOf m (item_needs d (zone_at d k) (layer_at d k)) → IsOneOf m (item_needs b (zone_at d k) (layer_at d k))
-    items_back m w i =
-        items_to d b [] [] (sym s.rules) (among_same unplaced d.tracks b.tracks (sym s.tracks)) (among_same unplaced_via d.vias b.vias (sym s.vias)) (sym s.pads) (sym s.edges)
-        (zone_at d k) (layer_at d k) (around (zone_at d k).outline) (λ t i. absurd (none t i)) (λ v i. absurd (none v i)) m w i
-
-    anchors_there : (c : Copper) (o : Bounds) → IsTouching c o → ((p : PlanePoint) → In o p → In (around (zone_at d k).outline) p) → IsOneOf c (anchors_of b (zone_at d k) (layer_at d k)) → IsOneOf c (anchors_of d (zone_at d k) (layer_at d k))
-    anchors_there c o t inside i =
-        anchors_to b d [] [] s.rules (among_same unplaced b.tracks d.tracks s.tracks) (among_same unplaced_via b.vias d.vias s.vias) s.pads s.edges
-        (zone_at d k) (layer_at d k) (around (zone_at d k).outline) (λ t i. absurd (none t i)) (λ v i. absurd (none v i)) positive_before c o t inside i
-
-    anchors_back : (c : Copper) (o : Bounds) → IsTouching c o → ((p : PlanePoint) → In o p → In (around (zone_at d k).outline) p) → IsOneOf c (anchors_of d (zone_at d k) (layer_at d k)) → IsOneOf c (anchors_of b (zone_at d k) (layer_at d k))
-    anchors_back c o t inside i =
-        anchors_to d b [] [] (sym s.rules) (among_same unplaced d.tracks b.tracks (sym s.tracks)) (among_same unplaced_via d.vias b.vias (sym s.vias)) (sym s.pads) (sym s.edges)
-        (zone_at d k) (layer_at d k) (around (zone_at d k).outline) (λ t i. absurd (none t i)) (λ v i. absurd (none v i)) positive c o t inside i
+    items : HasSameItems b d
+    items = record { rules = s.rules; tracks = s.tracks; vias = s.vias; pads = s.pads; edges = s.edges }
 
     -- what reaches the task is of another zone
     reacher_as : (j : ℕ) → IsReaching b j k ⊎ IsReaching d j k → zone_at b j ≡ zone_at d j
@@ -74,12 +87,12 @@ module _ (b d : Board) (n : ℕ) (s : IsSameButZone b d n) (one : 1 ≤ d.rules.
     untouched_by = record {
       like = record { zone = zone_as; layer = layer_as k; pads = s.pads; areas = s.areas; edges = s.edges };
       items = λ m w. (
-        λ i. items_there m w (as_to (λ (z : Settings) (l : ℕ). IsOneOf m (item_needs b z l)) i),
-        λ i. as_back (λ (z : Settings) (l : ℕ). IsOneOf m (item_needs b z l)) (items_back m w i),
+        λ i. items_there b d items one (zone_at d k) (layer_at d k) m w (as_to (λ (z : Settings) (l : ℕ). IsOneOf m (item_needs b z l)) i),
+        λ i. as_back (λ (z : Settings) (l : ℕ). IsOneOf m (item_needs b z l)) (items_back b d items one (zone_at d k) (layer_at d k) m w i),
       );
       anchors = λ c o t inside. (
-        λ i. anchors_there c o t inside (as_to (λ (z : Settings) (l : ℕ). IsOneOf c (anchors_of b z l)) i),
-        λ i. as_back (λ (z : Settings) (l : ℕ). IsOneOf c (anchors_of b z l)) (anchors_back c o t inside i),
+        λ i. anchors_there b d items one (zone_at d k) (layer_at d k) c o t inside (as_to (λ (z : Settings) (l : ℕ). IsOneOf c (anchors_of b z l)) i),
+        λ i. as_back (λ (z : Settings) (l : ℕ). IsOneOf c (anchors_of b z l)) (anchors_back b d items one (zone_at d k) (layer_at d k) c o t inside i),
       );
       reach_to = λ j r.
           let z = reacher_as j (inl r) in

@@ -16,6 +16,7 @@ use Rattle.fill_rules.specs.Dirty.{unlined, IsUntouched}
 abbrev pub unplaced : Track → Track
 unplaced t = record { from = t.from; to = t.to; width = t.width; layer = t.layer; net = t.net; span = record { from = 0; to = 0 }; line = 0 }
 
+-- a via, wherever it stands in the file
 abbrev pub unplaced_via : Via → Via
 unplaced_via v = record { at = v.at; size = v.size; layers = v.layers; net = v.net; span = record { from = 0; to = 0 }; line = 0 }
 
@@ -24,6 +25,7 @@ pub record Placing : Type 0 where
   pub layers : ℕ
   pub priority : ℕ
 
+-- what a zone says of where it ranks
 abbrev pub placing : Zone → Placing
 placing z = record { layers = z.layers; priority = z.priority }
 
@@ -33,6 +35,7 @@ pub record Counting : Type 0 where
   pub layers : ℕ
   pub priority : ℕ
 
+-- what a zone says that counts for fills
 abbrev pub counting : Zone → Counting
 counting z = record { settings = settings_of z; layers = z.layers; priority = z.priority }
 

@@ -2,7 +2,7 @@
 use Rattle.std.specs.Prelude.{◌≡◌, ◌⊎◌, ◌↔◌, ℕ, zero, suc, ◌<◌, ◌≤ℤ◌, ◌<ℤ◌, true}
 use Rattle.plane.specs.Plane.{PlanePoint, Bounds, In, StrictlyIn, ball_of, moved, IsNear, AreNear, IsMeeting}
 use Rattle.grid_num.specs.declared.Point.{Point}
-use Rattle.covering.specs.Covering.{Covers, StrictlyCovers, edges_of}
+use Rattle.plane.specs.Covering.{Covers, StrictlyCovers, edges_of}
 use Rattle.copper_shape.specs.Shapes.{Copper}
 use Rattle.classes.specs.Classes.{Reaches, IsLeastOf, IsOneOf}
 use Rattle.board_language.specs.declared.board.Area.{Area}
@@ -92,5 +92,5 @@ abbrev pub AreFills : Board → Fills → Type 0
 AreFills b fills = (i : ℕ) (p : PlanePoint) → fills i p ↔ InFill b fills i p
 
 -- the fills of the reaching tasks alone
-abbrev pub reaching : Board → Fills → ℕ → Fills
-reaching b fills i j p = IsReaching b j i × fills j p
+abbrev pub reaching_fills : Board → Fills → ℕ → Fills
+reaching_fills b fills i j p = IsReaching b j i × fills j p

@@ -62,32 +62,35 @@ IsAnchor b z l c =
     ⊎ (((v : Via) × IsOneOf v b.vias × (has_layer v.layers l ≡ true) × (v.net ≡ z.net) × (c ≡ via_copper v))
     ⊎ ((t : Track) × IsOneOf t b.tracks × (t.layer ≡ l) × (t.net ≡ z.net) × (c ≡ track_copper t))))
 
+-- the anchors of a zone on a layer are the copper of which the rule in words says so, and no other
 abbrev pub AnchorsLaw : Type 0
 AnchorsLaw = (b : Board) (z : Settings) (l : ℕ) (c : Copper) → IsOneOf c (anchors_of b z l) ↔ IsAnchor b z l c
 
 -- ---- spokes
 
-pub data Direction : Type 0 where
-  East : Direction
-  South : Direction
-  West : Direction
-  North : Direction
+-- where a spoke leads from the pad's centre
+pub data SpokeDirection : Type 0 where
+  East : SpokeDirection
+  South : SpokeDirection
+  West : SpokeDirection
+  North : SpokeDirection
 
 -- how far a place lies in the direction, and how far to its side
-abbrev pub ahead : Direction → ℤ → ℤ → ℤ
+abbrev pub ahead : SpokeDirection → ℤ → ℤ → ℤ
 ahead East x y = x
 ahead South x y = y
 ahead West x y = neg_ℤ x
 ahead North x y = neg_ℤ y
 
-abbrev pub aside : Direction → ℤ → ℤ → ℤ
+-- the coordinate across a spoke of the direction
+abbrev pub aside : SpokeDirection → ℤ → ℤ → ℤ
 aside East x y = y
 aside South x y = x
 aside West x y = y
 aside North x y = x
 
 -- how far an octagon reaches in the direction
-abbrev pub rim : Direction → Bounds → ℤ
+abbrev pub rim : SpokeDirection → Bounds → ℤ
 rim East h = h.x1
 rim South h = h.y1
 rim West h = neg_ℤ h.x0
@@ -95,18 +98,19 @@ rim North h = neg_ℤ h.y0
 
 -- q lies in the spoke that leads in the direction from the place (x, y): at most b behind it, at most r beyond the
 -- hull, and at most h to either side
-pub record IsInSpoke (d : Direction) (x y : ℤ) (b h r : ℕ) (hull : Bounds) (q : PlanePoint) : Type 0 where
+pub record IsInSpoke (d : SpokeDirection) (x y : ℤ) (b h r : ℕ) (hull : Bounds) (q : PlanePoint) : Type 0 where
   pub back : (pos q.scale *ℤ (ahead d x y -ℤ pos b)) ≤ℤ ahead d q.x q.y
   pub front : ahead d q.x q.y ≤ℤ (pos q.scale *ℤ (rim d hull +ℤ pos r))
   pub left : (pos q.scale *ℤ (aside d x y -ℤ pos h)) ≤ℤ aside d q.x q.y
   pub right : aside d q.x q.y ≤ℤ (pos q.scale *ℤ (aside d x y +ℤ pos h))
 
 -- the octagons are the spokes in these directions
-unfoldable pub AreSpokes : ℤ → ℤ → ℕ → ℕ → ℕ → Bounds → List Direction → List Bounds → Type 0
+unfoldable pub AreSpokes : ℤ → ℤ → ℕ → ℕ → ℕ → Bounds → List SpokeDirection → List Bounds → Type 0
 AreSpokes x y b h r hull [] os = os ≡ []
 AreSpokes x y b h r hull (d ∷ ds) [] = ⊥
 AreSpokes x y b h r hull (d ∷ ds) (o ∷ os) = ((q : PlanePoint) → In o q ↔ IsInSpoke d x y b h r hull q) × AreSpokes x y b h r hull ds os
 
+-- the four spokes of a pad lead east, south, west and north, each as the rule in words says
 abbrev pub SpokesLaw : Type 0
 SpokesLaw =
     (x y : ℤ) (b h r : ℕ) (hull : Bounds)

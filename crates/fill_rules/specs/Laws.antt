@@ -2,13 +2,13 @@
 use Rattle.std.specs.Prelude.{◌≡◌, ◌⊎◌, ◌↔◌, ℕ, ◌≤◌, ◌<◌, ◌+◌, ◌*◌, pos, ◌*ℤ◌, ◌≤ℤ◌, Bool, true, List, length, get_or}
 use Rattle.plane.specs.Plane.{PlanePoint, Bounds, In, IsNear, AreNear, IsMeeting, scaled_dist_sq}
 use Rattle.grid_num.specs.declared.Point.{Point}
-use Rattle.covering.specs.Covering.{Covers, edges_of}
+use Rattle.plane.specs.Covering.{Covers, edges_of}
 use Rattle.hulls.specs.Cells.{around}
 use Rattle.classes.specs.Classes.{Reaches}
 use Rattle.board_language.specs.Board.{Board}
 use Rattle.fill_rules.specs.Tasks.{ranked, zone_at, layer_at}
 use Rattle.fill_rules.specs.Reach.{IsReaching}
-use Rattle.fill_rules.specs.Fill.{brush_at, IsAllowed, IsLinked, IsLive, IsKept, InFill, fill_of, reaching}
+use Rattle.fill_rules.specs.Fill.{brush_at, IsAllowed, IsLinked, IsLive, IsKept, InFill, fill_of, reaching_fills}
 use Rattle.fill_rules.specs.Parts.{AreParts, IsOnePart}
 use Rattle.fill_rules.specs.Sound.{IsSound}
 use Rattle.fill_rules.specs.Dirty.{IsDirty, IsSameFill, IsSameMade, IsUntouched, Spreads}
@@ -17,8 +17,8 @@ use Rattle.fill_rules.specs.Ranking.{IsRanking}
 use Rattle.fill_rules.specs.Distance.{IsWithin}
 
 -- points that are near at a need are near at a greater one
-abbrev pub NearLaw : Type 0
-NearLaw = (a c : ℕ) → a ≤ c → (p q : PlanePoint) → IsNear a p q → IsNear c p q
+abbrev pub NearnessGrowsLaw : Type 0
+NearnessGrowsLaw = (a c : ℕ) → a ≤ c → (p q : PlanePoint) → IsNear a p q → IsNear c p q
 
 -- so octagons that keep a need keep each lesser one
 abbrev pub ClearLaw : Type 0
@@ -41,14 +41,14 @@ abbrev pub ComponentLaw : Type 0
 ComponentLaw = (b : Board) (i : ℕ) (c d : Point) → IsAllowed b (fill_of b) i c → Reaches (IsLinked b (fill_of b) i) c d → IsAllowed b (fill_of b) i d
 
 -- and all that are linked to one of them
-abbrev pub WholeLaw : Type 0
-WholeLaw =
+abbrev pub WholeComponentLaw : Type 0
+WholeComponentLaw =
     (b : Board) (i : ℕ) (c d e : Point) → IsAllowed b (fill_of b) i c → Reaches (IsLinked b (fill_of b) i) c d
     → IsAllowed b (fill_of b) i e → IsMeeting (brush_at b i d) (brush_at b i e) → Reaches (IsLinked b (fill_of b) i) c e
 
 -- a centre is kept together with its whole component
-abbrev pub TogetherLaw : Type 0
-TogetherLaw = (b : Board) (i : ℕ) (c d : Point) → IsKept b (fill_of b) i c → Reaches (IsLinked b (fill_of b) i) c d → IsKept b (fill_of b) i d
+abbrev pub KeptTogetherLaw : Type 0
+KeptTogetherLaw = (b : Board) (i : ℕ) (c d : Point) → IsKept b (fill_of b) i c → Reaches (IsLinked b (fill_of b) i) c d → IsKept b (fill_of b) i d
 
 -- past the last rank there is no fill
 abbrev pub NoFillLaw : Type 0
@@ -74,14 +74,14 @@ ListLaw =
     → (p : PlanePoint) → covered_by fills i p ↔ fill_of b i p
 
 -- so at most one list of fills meets them
-abbrev pub OneLaw : Type 0
-OneLaw =
+abbrev pub OneListOfFillsLaw : Type 0
+OneListOfFillsLaw =
     (b : Board) (fills others : List (List Bounds)) → AreFillLists b fills → AreFillLists b others
     → (i : ℕ) → i < length (ranked b) → (p : PlanePoint) → covered_by fills i p ↔ covered_by others i p
 
 -- a higher task that doesn't reach a task changes nothing in its fill
-abbrev pub ReachLaw : Type 0
-ReachLaw = (b : Board) → IsSound b → (i : ℕ) (p : PlanePoint) → fill_of b i p ↔ InFill b (reaching b (fill_of b) i) i p
+abbrev pub NoReachLaw : Type 0
+NoReachLaw = (b : Board) → IsSound b → (i : ℕ) (p : PlanePoint) → fill_of b i p ↔ InFill b (reaching_fills b (fill_of b) i) i p
 
 -- and what a task reaches ranks below it, on its layer, for a zone that is foreign to its own
 abbrev pub ReachedLaw : Type 0
@@ -103,8 +103,8 @@ CleanLaw =
     → IsSameMade b d (fill_of b) (fill_of d) (old k) k
 
 -- a task that is untouched and made of the same centres and spokes as before has the fill that it had
-abbrev pub SameLaw : Type 0
-SameLaw =
+abbrev pub SameAsBeforeLaw : Type 0
+SameAsBeforeLaw =
     (b d : Board) (old : ℕ → ℕ) (k : ℕ) → IsUntouched b d old k → IsSameMade b d (fill_of b) (fill_of d) (old k) k
     → IsSameFill (fill_of b) (fill_of d) (old k) k
 
@@ -115,7 +115,7 @@ PartsLaw =
     → (get_or labels j 0 ≡ get_or labels k 0) ↔ IsOnePart octs j k
 
 -- what is not near, at a need in units, to any point within a radius in halves of q is at least both together away from q
-abbrev pub DistanceLaw : Type 0
-DistanceLaw =
+abbrev pub CopperDistanceLaw : Type 0
+CopperDistanceLaw =
     (a r : ℕ) → 1 ≤ a → (p q : PlanePoint) → ((h : PlanePoint) → IsWithin r h q → IsNear a p h → ⊥)
     → pos (((4 * a + r) * (p.scale * q.scale)) * ((4 * a + r) * (p.scale * q.scale))) ≤ℤ (pos 16 *ℤ scaled_dist_sq p q)

@@ -5,6 +5,7 @@ pub mod Anchors
 pub mod Reach
 pub mod Fill
 pub mod Parts
+pub mod Made
 pub mod Sound
 pub mod Dirty
 pub mod Edits
@@ -14,3 +15,6 @@ pub mod Distance
 pub mod InWords
 pub mod Rows
 pub mod Laws
+pub mod Nodes
+pub mod Clusters
+pub mod ClusterLaws

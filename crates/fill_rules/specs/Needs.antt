@@ -50,6 +50,7 @@ track_copper t = record { core = line (in_halves t.from) (in_halves t.to); radiu
 abbrev pub via_copper : Via → Copper
 via_copper v = record { core = area (box_of (in_halves v.at).x (in_halves v.at).x (in_halves v.at).y (in_halves v.at).y); radius = v.size }
 
+-- the octagons that stand for a piece of copper
 abbrev pub hulls_round : Copper → List Bounds
 hulls_round c = hulls_of c.core c.radius
 
@@ -66,6 +67,7 @@ pub data Role : Type 0 where
   -- not joined
   Unjoined : Role
 
+-- what a join makes of a pad of the zone's net; joins that are thermal for plated pads are solid for others
 abbrev pub role_by : PadKind → Join → Role
 role_by kind Thermal = Relieved
 role_by kind Solid = Joined
@@ -78,11 +80,13 @@ role_by Hole PlatedThermal = Foreign
 abbrev pub role_of_net : Settings → Pad → Role
 role_of_net z p = cond (is_foreign z.net p.net) Foreign (role_by p.kind (unwrap_or p.join z.join))
 
+-- a bare hole is foreign to every zone
 abbrev pub role_of_kind : PadKind → Role → Role
 role_of_kind Hole r = Foreign
 role_of_kind Plated r = r
 role_of_kind Surface r = r
 
+-- what the pad is to the zone
 abbrev pub role : Settings → Pad → Role
 role z p = role_of_kind p.kind (role_of_net z p)
 
@@ -92,6 +96,7 @@ stands Hole copper = true
 stands Plated copper = copper
 stands Surface copper = copper
 
+-- whether the pad counts on the layer: it has copper there, or is a bare hole
 abbrev pub is_on : ℕ → Pad → Bool
 is_on l p = stands p.kind (has_layer p.layers l)
 
@@ -106,18 +111,23 @@ pub record Need : Type 0 where
   pub oct : Bounds
   pub need : ℕ
 
+-- these octagons, each to be kept away from at the need
 abbrev pub at_need : ℕ → List Bounds → List Need
 at_need n os = map (λ (o : Bounds). record { oct = o; need = n }) os
 
-abbrev pub when : {A : Type 0} → Bool → List A → List A
-when b xs = cond b xs []
+-- the list where the test holds, and nothing where it doesn't
+abbrev pub keep_when : {A : Type 0} → Bool → List A → List A
+keep_when b xs = cond b xs []
 
+-- a foreign track on the layer is kept away from
 abbrev pub track_needs : Board → Settings → ℕ → Track → List Need
-track_needs b z l t = when ((t.layer == l) && is_foreign z.net t.net) (at_need (item_need b z 0) (hulls_round (track_copper t)))
+track_needs b z l t = keep_when ((t.layer == l) && is_foreign z.net t.net) (at_need (item_need b z 0) (hulls_round (track_copper t)))
 
+-- and a foreign via that has copper on the layer
 abbrev pub via_needs : Board → Settings → ℕ → Via → List Need
-via_needs b z l v = when (has_layer v.layers l && is_foreign z.net v.net) (at_need (item_need b z 0) (hulls_round (via_copper v)))
+via_needs b z l v = keep_when (has_layer v.layers l && is_foreign z.net v.net) (at_need (item_need b z 0) (hulls_round (via_copper v)))
 
+-- whether the zone keeps away from a pad of this role by the clearance
 abbrev pub is_barred : Role → Bool
 is_barred Foreign = true
 is_barred Unjoined = true
@@ -126,8 +136,9 @@ is_barred Joined = false
 
 -- foreign pads, holes, and pads that are not to be joined
 abbrev pub pad_needs : Board → Settings → ℕ → Pad → List Need
-pad_needs b z l p = when (is_on l p && is_barred (role z p)) (at_need (item_need b z p.clearance) (pad_hulls p))
+pad_needs b z l p = keep_when (is_on l p && is_barred (role z p)) (at_need (item_need b z p.clearance) (pad_hulls p))
 
+-- each piece of the board's edge is kept away from, on every layer
 abbrev pub edge_needs : Board → Edge → List Need
 edge_needs b e = at_need (edge_need b) (edge_hulls_of e.from e.to e.bow)
 

@@ -2,13 +2,13 @@
 use Rattle.std.specs.Prelude.{◌≡◌, ◌⊎◌, ◌↔◌, ◌<◌, true, List, [], ◌∷◌, length}
 use Rattle.classes.specs.Classes.{IsOneOf}
 use Rattle.board_language.specs.Board.{Board}
-use Rattle.fill_rules.specs.Tasks.{Task, has_layer, zone_of}
+use Rattle.fill_rules.specs.Tasks.{Task, has_layer, task_zone}
 
 -- t is one of the board's tasks: a zone together with one of its layers
 pub record IsTask (b : Board) (t : Task) : Type 0 where
   pub zone : t.zone < length b.zones
   pub layer : t.layer < length b.layers
-  pub has : has_layer (zone_of b t).layers t.layer ≡ true
+  pub has : has_layer (task_zone b t).layers t.layer ≡ true
 
 -- s stands before t in the file: by zone, then by layer
 abbrev pub IsFiled : Task → Task → Type 0
@@ -17,7 +17,7 @@ IsFiled s t = (s.zone < t.zone) ⊎ ((s.zone ≡ t.zone) × (s.layer < t.layer))
 -- s ranks above t: by greater priority, then by the file
 abbrev pub Outranks : Board → Task → Task → Type 0
 Outranks b s t =
-    ((zone_of b t).priority < (zone_of b s).priority) ⊎ (((zone_of b t).priority ≡ (zone_of b s).priority) × IsFiled s t)
+    ((task_zone b t).priority < (task_zone b s).priority) ⊎ (((task_zone b t).priority ≡ (task_zone b s).priority) × IsFiled s t)
 
 -- each of the list is in the relation to all later ones
 unfoldable pub IsSortedBy : {A : Type 0} → (A → A → Type 0) → List A → Type 0

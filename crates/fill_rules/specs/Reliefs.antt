@@ -11,14 +11,16 @@ use Rattle.hulls.specs.Cells.{floor_of}
 use Rattle.board_language.specs.declared.board.Pad.{Pad}
 use Rattle.board_language.specs.Board.{Board}
 use Rattle.fill_rules.specs.Tasks.{Settings}
-use Rattle.fill_rules.specs.Needs.{units, Role, Foreign, Relieved, Joined, Unjoined, role, is_on, pad_hulls, Need, at_need, when}
+use Rattle.fill_rules.specs.Needs.{units, Role, Foreign, Relieved, Joined, Unjoined, role, is_on, pad_hulls, Need, at_need, keep_when}
 
+-- whether a pad of this role is joined by spokes
 abbrev pub is_relieved : Role → Bool
 is_relieved Relieved = true
 is_relieved Foreign = false
 is_relieved Joined = false
 is_relieved Unjoined = false
 
+-- whether the zone joins the pad by spokes on the layer
 abbrev pub is_thermal : Settings → ℕ → Pad → Bool
 is_thermal z l p = is_on l p && is_relieved (role z p)
 
@@ -32,7 +34,7 @@ gap_of z p = max 1 (units (unwrap_or p.gap z.gap))
 
 -- the pads round which the brush's centres keep a gap
 unfoldable pub thermal_needs : Board → Settings → ℕ → List Need
-thermal_needs b z l = flat_map (λ (p : Pad). when (is_thermal z l p) (at_need (gap_of z p) (pad_hulls p))) b.pads
+thermal_needs b z l = flat_map (λ (p : Pad). keep_when (is_thermal z l p) (at_need (gap_of z p) (pad_hulls p))) b.pads
 
 -- ---- spokes
 
@@ -59,4 +61,4 @@ pad_spokes z p =
 
 -- all spokes of the thermal pads on the layer, in the order of the pads
 unfoldable pub spokes_of : Board → Settings → ℕ → List Bounds
-spokes_of b z l = flat_map (λ (p : Pad). when (is_thermal z l p) (pad_spokes z p)) b.pads
+spokes_of b z l = flat_map (λ (p : Pad). keep_when (is_thermal z l p) (pad_spokes z p)) b.pads

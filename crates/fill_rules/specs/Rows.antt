@@ -1,6 +1,7 @@
 -- Rows worked by hand: what the rules give for small boards, in numbers.
-use Rattle.std.specs.Prelude.{◌≡◌, ℕ, pos, false, [], ◌∷◌, None}
+use Rattle.std.specs.Prelude.{◌≡◌, ℕ, pos, false, List, [], ◌∷◌, None}
 use Rattle.plane.specs.Plane.{box_of}
+use Rattle.grid_num.specs.declared.Point.{Point}
 use Rattle.touching.specs.Core.{area}
 use Rattle.board_language.specs.declared.Join.TheVariants.{Thermal}
 use Rattle.board_language.specs.declared.PadKind.TheVariants.{Surface}
@@ -11,12 +12,12 @@ use Rattle.fill_rules.specs.Tasks.{settings_of, ranked}
 use Rattle.fill_rules.specs.Needs.{item_need, edge_need}
 use Rattle.fill_rules.specs.Reliefs.{brush_radius, pad_spokes}
 
--- a zone of the net with the priority, on the first layer: clearance 0.2 mm, thickness 0.25 mm, gap and bridges 0.5 mm
-abbrev pub zone_on : ℕ → ℕ → Zone
-zone_on net priority =
+-- a zone with the outline, on the layers and of the net: clearance 0.2 mm, thickness 0.25 mm, gap and bridges 0.5 mm
+abbrev pub worked_zone : List Point → ℕ → ℕ → ℕ → Zone
+worked_zone outline layers net priority =
     record {
-      outline = [];
-      layers = 1;
+      outline = outline;
+      layers = layers;
       net = net;
       priority = priority;
       join = Thermal;
@@ -29,6 +30,10 @@ zone_on net priority =
       span = record { from = 0; to = 0 };
       line = 0;
     }
+
+-- one on the first layer, wherever it lies
+abbrev pub zone_on : ℕ → ℕ → Zone
+zone_on net priority = worked_zone [] 1 net priority
 
 -- a square pad of 1 mm at (5, 5), of net 1, with a clearance of 0.3 mm
 abbrev pub square_pad : Pad
@@ -79,9 +84,11 @@ RankRow = ranked three_zones ≡ record { zone = 2; layer = 0 } ∷ record { zon
 abbrev pub PadNeedRow : Type 0
 PadNeedRow = item_need three_zones (settings_of (zone_on 2 1)) square_pad.clearance ≡ 150000
 
+-- a track has no clearance of its own, so the zone's counts
 abbrev pub TrackNeedRow : Type 0
 TrackNeedRow = item_need three_zones (settings_of (zone_on 2 1)) 0 ≡ 100000
 
+-- 0.500001 mm are 250,000.5 units, rounded up
 abbrev pub EdgeNeedRow : Type 0
 EdgeNeedRow = edge_need three_zones ≡ 250001
 

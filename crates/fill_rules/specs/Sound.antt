@@ -21,5 +21,6 @@ pub record HasPad (p : Pad) : Type 0 where
   pub core : IsPad p.shape.core
   pub centre : InCore p.shape.core (grid_point (p.at.x +ℤ p.at.x) (p.at.y +ℤ p.at.y))
 
+-- a board whose zones are thick enough and whose pads have a pad's copper is sound
 abbrev pub SoundLaw : Type 0
 SoundLaw = (b : Board) → ((z : Zone) → IsOneOf z b.zones → 1000 ≤ z.thickness) → ((p : Pad) → IsOneOf p b.pads → HasPad p) → IsSound b

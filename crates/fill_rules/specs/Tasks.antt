@@ -7,6 +7,7 @@ use Rattle.board_language.specs.declared.Join.TheVariants.{Apart}
 use Rattle.board_language.specs.declared.board.Zone.{Zone}
 use Rattle.board_language.specs.Board.{Board}
 
+-- a zone together with one of its copper layers
 pub record Task : Type 0 where
   -- the place of the zone among the board's zones
   pub zone : ℕ
@@ -24,6 +25,7 @@ pub record Settings : Type 0 where
   pub bridge : ℕ
   pub keep_islands : Bool
 
+-- what a zone says that counts for its fill
 abbrev pub settings_of : Zone → Settings
 settings_of z =
     record {
@@ -56,6 +58,7 @@ no_zone =
       line = 0;
     }
 
+-- what stands past the last rank: a task of no zone
 abbrev pub no_task : Board → Task
 no_task b = record { zone = length b.zones; layer = 0 }
 
@@ -75,17 +78,19 @@ abbrev pub tasks_from : ℕ → ℕ → List Zone → List Task
 tasks_from count z [] = []
 tasks_from count z (zone ∷ zones) = map (λ (l : ℕ). record { zone = z; layer = l }) (layers_below zone.layers count) ++ tasks_from count (suc z) zones
 
-unfoldable pub zone_of : Board → Task → Zone
-zone_of b t = get_or b.zones t.zone no_zone
+-- the zone of a task; one without an outline where it has none
+unfoldable pub task_zone : Board → Task → Zone
+task_zone b t = get_or b.zones t.zone no_zone
 
 -- the task is put before those of no greater priority
-abbrev pub put : Board → Task → List Task → List Task
-put b t [] = t ∷ []
-put b t (u ∷ us) = cond (nat_le (zone_of b u).priority (zone_of b t).priority) (t ∷ u ∷ us) (u ∷ put b t us)
+abbrev pub put_by_priority : Board → Task → List Task → List Task
+put_by_priority b t [] = t ∷ []
+put_by_priority b t (u ∷ us) = cond (nat_le (task_zone b u).priority (task_zone b t).priority) (t ∷ u ∷ us) (u ∷ put_by_priority b t us)
 
+-- the tasks, each put before those of no greater priority that stand behind it in the file
 abbrev pub put_all : Board → List Task → List Task
 put_all b [] = []
-put_all b (t ∷ ts) = put b t (put_all b ts)
+put_all b (t ∷ ts) = put_by_priority b t (put_all b ts)
 
 -- all tasks in rank order: by priority downward, then by file order of the zones, then by layer. What it says stands, as
 -- a relation, in `Ranking`.
@@ -98,7 +103,8 @@ task_at b i = get_or (ranked b) i (no_task b)
 
 -- its zone's settings, and its layer
 unfoldable pub zone_at : Board → ℕ → Settings
-zone_at b i = settings_of (zone_of b (task_at b i))
+zone_at b i = settings_of (task_zone b (task_at b i))
 
+-- the layer of the task of rank i
 abbrev pub layer_at : Board → ℕ → ℕ
 layer_at b i = (task_at b i).layer

@@ -1,4 +1,5 @@
-//! The rules of the fill: which points a zone's copper takes, given the board and the fills of higher rank.
+//! The rules of the fill: which points a zone's copper takes, given the board and the fills of higher rank; and what hangs
+//! together on a filled board.
 //! The crates above use the definitions of `specs/` and the laws that the functions here state; nothing here runs.
 //! Places and octagons are units of the grid (2 nm), lengths of the board nanometres, cores and radii of copper halves.
 #![tactic(auto)]
@@ -7,11 +8,15 @@ ghost use Rattle.fill_rules.specs.InWords.{ForeignLaw, UnitsLaw, ItemNeedLaw, Zo
 ghost use Rattle.fill_rules.specs.Edits.{DirectLaw, SettingsLaw};
 ghost use Rattle.fill_rules.specs.Rows.{SpokesRow, RankRow, PadNeedRow, TrackNeedRow, EdgeNeedRow, BrushRow};
 ghost use Rattle.fill_rules.specs.Sound.{SoundLaw};
-ghost use Rattle.fill_rules.specs.Laws.{NearLaw, ClearLaw, RankingLaw, FrameLaw, KeptLaw, ComponentLaw, WholeLaw, TogetherLaw, FillLaw, NoFillLaw, FillFrameLaw, SpokeFrameLaw, ListLaw, OneLaw, ReachLaw, ReachedLaw, CleanLaw, SameLaw, PartsLaw, DistanceLaw};
+ghost use Rattle.fill_rules.specs.Laws.{NearnessGrowsLaw, ClearLaw, RankingLaw, FrameLaw, KeptLaw, ComponentLaw, WholeComponentLaw, KeptTogetherLaw, FillLaw, NoFillLaw, FillFrameLaw, SpokeFrameLaw, ListLaw, OneListOfFillsLaw, NoReachLaw, ReachedLaw, CleanLaw, SameAsBeforeLaw, PartsLaw, CopperDistanceLaw};
+
+mod joined;
+
+pub use joined::{cluster_law, label_law, node_law, touch_law};
 
 /// Points that are near at a need are near at a greater one, so what keeps a need keeps each lesser one.
 pub fn near_law()
-    ensures points { NearLaw }
+    ensures points { NearnessGrowsLaw }
     ensures clear { ClearLaw }
 {}
 
@@ -50,8 +55,8 @@ pub fn frame_law()
 pub fn component_law()
     ensures kept { KeptLaw }
     ensures allowed { ComponentLaw }
-    ensures whole { WholeLaw }
-    ensures together { TogetherLaw }
+    ensures whole { WholeComponentLaw }
+    ensures together { KeptTogetherLaw }
 {}
 
 /// A board is sound where its zones are at least 0.001 mm thick and each pad's copper has a pad's core with the centre in it.
@@ -70,13 +75,13 @@ pub fn fill_law()
 /// Lists that meet the rules one after another cover the fills, so there is at most one list of fills.
 pub fn list_law()
     ensures fills { ListLaw }
-    ensures one { OneLaw }
+    ensures one { OneListOfFillsLaw }
 {}
 
 /// A higher task that does not reach a task changes nothing in its fill; a task reaches only what ranks below it on its layer,
 /// for a foreign zone.
 pub fn reach_law()
-    ensures fill { ReachLaw }
+    ensures fill { NoReachLaw }
     ensures reached { ReachedLaw }
 {}
 
@@ -84,7 +89,7 @@ pub fn reach_law()
 /// spokes as before, and then it has the fill that it had.
 pub fn clean_law()
     ensures made { CleanLaw }
-    ensures fill { SameLaw }
+    ensures fill { SameAsBeforeLaw }
 {}
 
 /// A task is untouched that no track or via which came or went comes near to, at the need and whatever the nets; and, where a
@@ -102,7 +107,7 @@ pub fn parts_law()
 /// What is not near, at a need, to any point of the copper round a place is at least the need and the copper's radius away from
 /// the place.
 pub fn distance_law()
-    ensures { DistanceLaw }
+    ensures { CopperDistanceLaw }
 {}
 
 /// Each point of a fill keeps the need from each point of foreign copper, of holes and of pads that are not to be joined, of

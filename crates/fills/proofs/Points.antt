@@ -11,7 +11,7 @@ use Rattle.classes.proofs.Reaching.{reaches_self}
 use Rattle.grid_num.specs.declared.Point.{Point}
 use Rattle.board_language.specs.declared.board.Zone.{Zone}
 use Rattle.board_language.specs.Board.{Board}
-use Rattle.fill_rules.specs.Tasks.{ranked, zone_of, zone_at, task_at, layer_at, no_zone}
+use Rattle.fill_rules.specs.Tasks.{ranked, task_zone, zone_at, task_at, layer_at, no_zone}
 use Rattle.fill_rules.specs.Reliefs.{brush_radius, spokes_of}
 use Rattle.fill_rules.specs.Fill.{brush_at, IsKept, InFill, fill_of}
 use Rattle.fill_rules.specs.Lists.{InOne, covered_by}
@@ -23,8 +23,9 @@ use Rattle.fill_rules.proofs.Members.{one_of_append, append_left, append_right, 
 use Rattle.grid_sets.specs.Cells.{cells_of, OnBrushed, IsBrushedByRows}
 use Rattle.grid_sets.proofs.Apart.{cells_tight_law}
 use Rattle.grid_sets.proofs.Brushed.{cells_brush_law}
-use Rattle.fills.specs.Fills.{Made, IsCounted, AreThose, brushed, ArePieces, IsFillOf}
-use Rattle.fills.specs.Laws.{no_fill, AllFillsLaw, FillPointsLaw, SpokesLaw, PartsLaw}
+use Rattle.fill_rules.specs.Made.{Made, no_fill}
+use Rattle.fills.specs.Fills.{IsCounted, AreThose, brushed, ArePieces, IsFillOf}
+use Rattle.fills.specs.Laws.{AllFillsLaw, FillPointsLaw, FillSpokesLaw, FillPartsLaw}
 
 -- ---- the spokes that count
 module _ (P : Bounds → Type 0) where
@@ -70,7 +71,7 @@ IsThick : Zone → Type 0
 IsThick z = 1000 ≤ z.thickness
 
 wide : (b : Board) → IsSound b → (i : ℕ) → 250 ≤ brush_radius (zone_at b i)
-unfolding IsThick zone_of zone_at
+unfolding IsThick task_zone zone_at
 wide b s i =
     let t : 1000 ≤ (zone_at b i).thickness = get_or_is IsThick b.zones (task_at b i).zone no_zone (lit≤ tt) s.thick in
     omega arith
@@ -140,14 +141,14 @@ last_are xs ys ps n e f =
     subst (λ (qs : List Bounds). drop (length qs - n) qs ≡ ys) (sym e)
     (drop_append xs ys (length (xs ++ ys) - n) (let l = length_append xs ys in omega (arith, l, f)))
 
-pub spokes_last : SpokesLaw
+pub spokes_last : FillSpokesLaw
 spokes_last b i f w o =
     let h = w.pieces in
     let e = last_are (map (brushed (brush_radius (zone_at b i))) (cells_of h.bands)) h.counted f.pieces f.spokes h.in_order h.last in
     let c = counted_is b i f.pieces f.spokes h o in
     (λ m. c.0 (subst (IsOneOf o) e m), λ m. subst (IsOneOf o) (sym e) (c.1 m))
 
-pub parts_are : PartsLaw
+pub parts_are : FillPartsLaw
 parts_are = record {
   one = λ b i f w j k l m. parts_same f.pieces f.parts w.parts j k l m;
   first = λ b i f w k l. (w.parts.least k l).least k (reaches_self (IsMeetingAt f.pieces) k);

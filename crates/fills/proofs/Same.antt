@@ -7,17 +7,20 @@ use Rattle.grid_num.specs.declared.Point.{Point}
 use Rattle.board_language.specs.declared.board.Pad.{Pad}
 use Rattle.board_language.specs.Board.{Board}
 use Rattle.fill_rules.specs.Tasks.{Settings, zone_at, layer_at}
-use Rattle.fill_rules.specs.Needs.{when, pad_hulls}
+use Rattle.fill_rules.specs.Needs.{keep_when, pad_hulls}
 use Rattle.fill_rules.specs.Reliefs.{brush_radius, is_thermal, pad_spokes, spokes_of}
 use Rattle.fill_rules.specs.Fill.{brush_at, fill_of}
 use Rattle.fill_rules.specs.Parts.{IsMeetingAt, IsUpTo, AreParts}
 use Rattle.fill_rules.specs.Dirty.{unlined, IsLike, IsSameMade}
+use Rattle.fill_rules.proofs.Laws.{up_to_one}
+use Rattle.fill_rules.proofs.Members.{same_lists}
 use Rattle.grid_sets.specs.Rows.{Row}
 use Rattle.grid_sets.specs.Bands.{Band, AreBandsOf}
 use Rattle.grid_sets.specs.Cells.{cells_of}
 use Rattle.grid_sets.proofs.Unique.{rows_law}
 use Rattle.grid_sets.proofs.OneBands.{bands_law}
-use Rattle.fills.specs.Fills.{Made, IsCounted, AreThose, brushed, ArePieces}
+use Rattle.fill_rules.specs.Made.{Made}
+use Rattle.fills.specs.Fills.{IsCounted, AreThose, brushed, ArePieces}
 use Rattle.fills.specs.Laws.{IsSamePieces, OneFillLaw, SameFillLaw}
 
 -- ---- what two boards say of their pads, whatever lines these stand on
@@ -27,7 +30,7 @@ flat_unlined {X} f h (p ∷ ps) =
     ap (λ (x : List X). f p ++ x) (flat_unlined f h ps) ∙ ap (λ (x : List X). x ++ flat_map f (map unlined ps)) (sym (h p))
 
 spokes_by_pad : Settings → ℕ → Pad → List Bounds
-spokes_by_pad z l p = when (is_thermal z l p) (pad_spokes z p)
+spokes_by_pad z l p = keep_when (is_thermal z l p) (pad_spokes z p)
 
 unlined_spokes : (z : Settings) (l : ℕ) (p : Pad) → spokes_by_pad z l (unlined p) ≡ spokes_by_pad z l p
 unfolding spokes_by_pad pad_spokes pad_hulls
@@ -59,20 +62,9 @@ those_same P Q h (o ∷ os) xs ys (inr (p, a)) (inl (m, c)) = absurd (m ((h o).0
 those_same P Q h (o ∷ os) xs ys (inr (p, (r, e, a))) (inr (q, (s, f, c))) =
     e ∙ (ap (λ (t : List Bounds). o ∷ t) (those_same P Q h os r s a c) ∙ sym f)
 
-same_list : (xs ys : List ℕ) → length xs ≡ length ys → ((i : ℕ) → i < length xs → get_or xs i 0 ≡ get_or ys i 0) → xs ≡ ys
-same_list [] [] e h = refl
-same_list [] (y ∷ ys) e h = absurd (omega (arith, e))
-same_list (x ∷ xs) [] e h = absurd (omega (arith, e))
-same_list (x ∷ xs) (y ∷ ys) e h =
-    let t : xs ≡ ys = same_list xs ys (omega (arith, e)) (λ i l. h (suc i) (omega (arith, l))) in
-    ap (λ z. z ∷ xs) (h zero (omega arith)) ∙ ap (λ zs. y ∷ zs) t
-
-up_to_one : (x y : ℕ) → IsUpTo x y → IsUpTo y x → x ≡ y
-up_to_one x y h g = omega (arith, h, g)
-
 parts_one : (octs : List Bounds) (labels others : List ℕ) → AreParts octs labels → AreParts octs others → labels ≡ others
 parts_one octs labels others h g =
-    same_list labels others (h.each ∙ sym g.each)
+    same_lists 0 labels others (h.each ∙ sym g.each)
     (λ i l. let m : i < length octs = omega (arith, l, h.each) in
     least_one (IsMeetingAt octs) IsUpTo up_to_one i (get_or labels i 0) (get_or others i 0) (h.least i m) (g.least i m))
 

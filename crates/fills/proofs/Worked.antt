@@ -2,19 +2,20 @@
 use Rattle.std.proofs.Common.{◌≡◌, refl, sym, ◌∙◌, ap, ℕ, suc, arith, List, [], ◌∷◌, length}
 use Rattle.std.specs.Prelude.{map, pos, negsuc}
 use Rattle.std.proofs.lemmas.Int.{ints}
-use Rattle.plane.specs.Plane.{up2_of, ball_of}
-use Rattle.plane.proofs.Near.{up2_above}
+use Rattle.grid_num.specs.Roots.{up2_of}
+use Rattle.plane.specs.Plane.{ball_of}
+use Rattle.grid_num.proofs.Roots.{up2_above}
 use Rattle.grid_sets.specs.Rows.{Run}
-use Rattle.grid_sets.specs.Bands.{at}
+use Rattle.grid_sets.specs.Bands.{run_down}
 use Rattle.grid_sets.specs.declared.Slant.{Slant}
 use Rattle.fills.specs.Rows.{PiecesRow}
 
-length_map : (k : ℕ) (ss : List Slant) → length (map (at k) ss) ≡ length ss
+length_map : (k : ℕ) (ss : List Slant) → length (map (run_down k) ss) ≡ length ss
 length_map k [] = refl
 length_map k (s ∷ ss) = ap suc (length_map k ss)
 
 -- a row with two runs joins no band with one
-two_join_none : (k : ℕ) (ss : List Slant) (one two more : Run) → map (at 0) ss ≡ one ∷ [] → map (at 1) ss ≡ two ∷ more ∷ [] → ⊥
+two_join_none : (k : ℕ) (ss : List Slant) (one two more : Run) → map (run_down 0) ss ≡ one ∷ [] → map (run_down 1) ss ≡ two ∷ more ∷ [] → ⊥
 two_join_none k ss one two more e f =
     let a : length ss ≡ 1 = sym (length_map 0 ss) ∙ ap length e in
     let b : length ss ≡ 2 = sym (length_map 1 ss) ∙ ap length f in

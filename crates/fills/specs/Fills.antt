@@ -7,21 +7,15 @@ use Rattle.fill_rules.specs.Tasks.{task_at, zone_at, layer_at}
 use Rattle.fill_rules.specs.Reliefs.{brush_radius, spokes_of}
 use Rattle.fill_rules.specs.Fill.{brush_at, IsLive, IsKept, fill_of}
 use Rattle.fill_rules.specs.Parts.{AreParts}
+use Rattle.fill_rules.specs.Made.{Made}
 use Rattle.grid_sets.specs.Rows.{Row, AreRowsOf}
 use Rattle.grid_sets.specs.Bands.{Band, AreBandsOf}
 use Rattle.grid_sets.specs.Cells.{cells_of}
 use Rattle.fills.specs.declared.Task.{Task}
 
+-- a task, as the rules of the fill see it
 abbrev pub task_of : Task → Rattle.fill_rules.specs.Tasks.Task
 task_of t = record { zone = t.zone; layer = t.layer }
-
--- a fill as it is handed on: the last of the pieces are its spokes, and each piece has the place of the first piece of its
--- part
-pub record Made : Type 0 where
-  pub task : Rattle.fill_rules.specs.Tasks.Task
-  pub pieces : List Bounds
-  pub spokes : ℕ
-  pub parts : List ℕ
 
 -- the brush of the task stands at the grid point
 abbrev pub IsKeptAt : Board → ℕ → ℤ → ℤ → Type 0

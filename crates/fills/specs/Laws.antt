@@ -9,7 +9,8 @@ use Rattle.fill_rules.specs.Sound.{IsSound}
 use Rattle.fill_rules.specs.Dirty.{IsLike, IsSameMade}
 use Rattle.fill_rules.specs.Lists.{InOne, AreFillLists}
 use Rattle.fill_rules.specs.Parts.{IsOnePart}
-use Rattle.fills.specs.Fills.{Made, IsCounted, IsFillOf}
+use Rattle.fill_rules.specs.Made.{Made, no_fill}
+use Rattle.fills.specs.Fills.{IsCounted, IsFillOf}
 
 -- a task has at most one fill: one list of pieces in one order, with one list of parts
 abbrev pub OneFillLaw : Type 0
@@ -32,21 +33,17 @@ abbrev pub FillPointsLaw : Type 0
 FillPointsLaw = (b : Board) → IsSound b → (i : ℕ) (f : Made) → IsFillOf b i f → (p : PlanePoint) → InOne f.pieces p ↔ fill_of b i p
 
 -- the last pieces are the spokes that count
-abbrev pub SpokesLaw : Type 0
-SpokesLaw =
+abbrev pub FillSpokesLaw : Type 0
+FillSpokesLaw =
     (b : Board) (i : ℕ) (f : Made) → IsFillOf b i f → (o : Bounds)
     → IsOneOf o (drop (length f.pieces - f.spokes) f.pieces) ↔ IsCounted b i o
 
 -- two pieces have one number exactly where they are in one part, and no piece has a number past its own place
-pub record PartsLaw : Type 0 where
+pub record FillPartsLaw : Type 0 where
   pub one : (b : Board) (i : ℕ) (f : Made) → IsFillOf b i f → (j k : ℕ) → j < length f.pieces → k < length f.pieces
       → (get_or f.parts j 0 ≡ get_or f.parts k 0) ↔ IsOnePart f.pieces j k
   pub first : (b : Board) (i : ℕ) (f : Made) → IsFillOf b i f → (k : ℕ) → k < length f.pieces → get_or f.parts k 0 ≤ k
   pub each : (b : Board) (i : ℕ) (f : Made) → IsFillOf b i f → length f.parts ≡ length f.pieces
-
--- what stands past the last task
-abbrev pub no_fill : Made
-no_fill = record { task = record { zone = 0; layer = 0 }; pieces = []; spokes = 0; parts = [] }
 
 -- the fills of all tasks, in rank order, are lists that meet the rules one after another
 abbrev pub AllFillsLaw : Type 0

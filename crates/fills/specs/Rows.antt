@@ -17,6 +17,7 @@ kept_rows =
     ∷ record { y = pos 12; runs = record { from = pos 1; to = pos 3 } ∷ record { from = pos 5; to = pos 6 } ∷ [] }
     ∷ []
 
+-- the two bands of these rows
 abbrev pub kept_bands : List Band
 kept_bands =
     record { top = pos 10; more = 1; runs = record { from = record { place = pos 0; go = Left }; to = record { place = pos 3; go = Still } } ∷ [] }
@@ -38,6 +39,7 @@ three_pieces =
     ∷ record { x0 = negsuc 244; x1 = pos 256; y0 = negsuc 237; y1 = pos 262; s0 = negsuc 336; s1 = pos 372; d0 = negsuc 360; d1 = pos 348 }
     ∷ []
 
+-- the rows are grouped into these bands, and their cells plus the brush are these pieces
 pub record PiecesRow : Type 0 where
   pub rows : AreRows kept_rows
   pub bands : AreBandsOf kept_rows kept_bands

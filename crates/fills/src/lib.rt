@@ -3,11 +3,8 @@
 //! Pieces are octagons in units of the grid (2 nm).
 #![tactic(auto)]
 
-ghost use Rattle.fills.specs.Laws.{OneFillLaw, SameFillLaw, FillPointsLaw, AllFillsLaw, SpokesLaw, PartsLaw};
+ghost use Rattle.fills.specs.Laws.{OneFillLaw, SameFillLaw, FillPointsLaw, AllFillsLaw, FillSpokesLaw, FillPartsLaw};
 ghost use Rattle.fills.specs.Rows.{PiecesRow};
-
-#[cfg(test)]
-mod tests;
 
 use octagon::Oct;
 use std::marker::Model;
@@ -34,7 +31,8 @@ pub struct Fill {
 }
 
 impl Model for Fill {
-    ghost use Rattle.fills.specs.Fills.{Made, task_of};
+    ghost use Rattle.fill_rules.specs.Made.{Made};
+    ghost use Rattle.fills.specs.Fills.{task_of};
 
     ghost Value = { Made };
 
@@ -61,12 +59,12 @@ pub fn fill_points_law()
 
 /// The last pieces of a fill are its spokes: all that are live and meet the kept copper, and no others.
 pub fn spokes_law()
-    ensures { SpokesLaw }
+    ensures { FillSpokesLaw }
 {}
 
 /// Two pieces have the same number in `parts` exactly where they hang together, and no number is past the piece's own place.
 pub fn parts_law()
-    ensures { PartsLaw }
+    ensures { FillPartsLaw }
 {}
 
 /// What the definitions give for three rows of centres that are worked by hand.

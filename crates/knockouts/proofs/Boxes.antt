@@ -13,6 +13,7 @@ use Rattle.octagon.specs.Room.{IsAround}
 use Rattle.cores.specs.Room.{IsInRoom}
 use Rattle.hulls.specs.Cells.{floor_of, around}
 use Rattle.hulls.proofs.Around.{Holds, IsInside, around_inside, one_least_law}
+use Rattle.fill_rules.proofs.Sound.{halved}
 use Rattle.knockouts.specs.Spokes.{IsSpokeHull}
 
 abbrev pub corners : ℤ → ℤ → ℤ → ℤ → List Point
@@ -141,18 +142,6 @@ pub in_order : (x z l r : ℤ) (m n : ℕ) → l ≡ x -ℤ pos m → r ≡ z +�
 in_order x z l r m n el er h = omega (arith, ints, el, er, h)
 
 -- ---- centres
-
--- a quarter of twice as much, rounded down, is the half
-halved : (x : ℤ) → floor_of 4 (x +ℤ x) ≡ floor_of 2 x
-unfolding floor_of
-halved (pos a) = ap pos (quarter a)
-  where
-    quarter : (a : ℕ) → (a + a) / 4 ≡ a / 2
-    quarter a = omega arith
-halved (negsuc a) = ap negsuc (quarter a)
-  where
-    quarter : (a : ℕ) → suc (a + a) / 4 ≡ a / 2
-    quarter a = omega arith
 
 spoke_hull : (x y : ℤ) (h : Bounds) → Within h (floor_of 4 (x +ℤ x)) (floor_of 4 (y +ℤ y)) → IsAround 1000000000 h → IsSpokeHull (floor_of 2 x) (floor_of 2 y) h
 spoke_hull x y h w r =

@@ -5,7 +5,7 @@ use Rattle.std.specs.List.{insert}
 use Rattle.std.proofs.lemmas.List.{map-append, take_more, take-map, drop-map, get_or-map, length-map}
 use Rattle.board_language.specs.declared.board.Zone.{Zone}
 use Rattle.board_language.specs.Board.{Board}
-use Rattle.fill_rules.specs.Tasks.{Task, has_layer, layers_below, tasks_from, put, put_all, zone_of}
+use Rattle.fill_rules.specs.Tasks.{Task, has_layer, layers_below, tasks_from, put_by_priority, put_all, task_zone}
 use Rattle.knockouts.proofs.Walks.{drop_here, drop_past, drop_back}
 
 -- ---- the layers of a zone
@@ -39,10 +39,10 @@ zone_none count i zones done all l h = sym (append-nil done) ∙ ap (λ zs. done
 
 -- ---- the place of a task
 put_split : (b : Board) (t : Task) (ts : List Task) (i : ℕ) (u : Task) → i < length ts → u ≡ get_or ts i u
-    → put b t (drop i ts) ≡ cond (nat_le (zone_of b u).priority (zone_of b t).priority) (t ∷ drop i ts) (u ∷ put b t (drop (i + 1) ts))
+    → put_by_priority b t (drop i ts) ≡ cond (nat_le (task_zone b u).priority (task_zone b t).priority) (t ∷ drop i ts) (u ∷ put_by_priority b t (drop (i + 1) ts))
 put_split b t ts i u l same =
     let here = drop_here ts i u l same in
-    ap (put b t) here ∙ ap (λ us. cond (nat_le (zone_of b u).priority (zone_of b t).priority) (t ∷ us) (u ∷ put b t (drop (i + 1) ts))) (sym here)
+    ap (put_by_priority b t) here ∙ ap (λ us. cond (nat_le (task_zone b u).priority (task_zone b t).priority) (t ∷ us) (u ∷ put_by_priority b t (drop (i + 1) ts))) (sym here)
 
 at_most : (m n : ℕ) → m ≤ n → nat_le m n ≡ true
 at_most m n l = grind arith
@@ -57,38 +57,38 @@ at_place f xs i x l same = ap f same ∙ sym (get_or-map f xs i x (f x) l)
 below_map : {V : Type 0} (f : V → Task) (xs : List V) (i : ℕ) → i < length xs → i < length (map f xs)
 below_map f xs i l = let e = length-map xs f in omega (arith, l, e)
 
-pub place_here : {V : Type 0} (f : V → Task) (b : Board) (t : Task) (xs : List V) (i : ℕ) (x : V) → i < length xs → x ≡ get_or xs i x → (p q : ℕ) → p ≡ (zone_of b (f x)).priority → q ≡ (zone_of b t).priority → p ≤ q
-    → take i (map f xs) ++ put b t (drop i (map f xs)) ≡ put b t (map f xs) → insert (map f xs) i t ≡ put b t (map f xs)
+pub place_here : {V : Type 0} (f : V → Task) (b : Board) (t : Task) (xs : List V) (i : ℕ) (x : V) → i < length xs → x ≡ get_or xs i x → (p q : ℕ) → p ≡ (task_zone b (f x)).priority → q ≡ (task_zone b t).priority → p ≤ q
+    → take i (map f xs) ++ put_by_priority b t (drop i (map f xs)) ≡ put_by_priority b t (map f xs) → insert (map f xs) i t ≡ put_by_priority b t (map f xs)
 place_here f b t xs i x l same p q ep eq less h =
     let ts = map f xs in
-    let e : nat_le (zone_of b (f x)).priority (zone_of b t).priority ≡ true = at_most _ _ (rw (← ep, ← eq) less) in
+    let e : nat_le (task_zone b (f x)).priority (task_zone b t).priority ≡ true = at_most _ _ (rw (← ep, ← eq) less) in
     ap (λ us. take i ts ++ us)
-    (sym (put_split b t ts i (f x) (below_map f xs i l) (at_place f xs i x l same) ∙ ap (λ c. cond c (t ∷ drop i ts) (f x ∷ put b t (drop (i + 1) ts))) e)) ∙ h
+    (sym (put_split b t ts i (f x) (below_map f xs i l) (at_place f xs i x l same) ∙ ap (λ c. cond c (t ∷ drop i ts) (f x ∷ put_by_priority b t (drop (i + 1) ts))) e)) ∙ h
 
-pub place_next : {V : Type 0} (f : V → Task) (b : Board) (t : Task) (xs : List V) (i : ℕ) (x : V) → i < length xs → x ≡ get_or xs i x → (p q : ℕ) → p ≡ (zone_of b (f x)).priority → q ≡ (zone_of b t).priority → q < p
-    → take i (map f xs) ++ put b t (drop i (map f xs)) ≡ put b t (map f xs) → take (i + 1) (map f xs) ++ put b t (drop (i + 1) (map f xs)) ≡ put b t (map f xs)
+pub place_next : {V : Type 0} (f : V → Task) (b : Board) (t : Task) (xs : List V) (i : ℕ) (x : V) → i < length xs → x ≡ get_or xs i x → (p q : ℕ) → p ≡ (task_zone b (f x)).priority → q ≡ (task_zone b t).priority → q < p
+    → take i (map f xs) ++ put_by_priority b t (drop i (map f xs)) ≡ put_by_priority b t (map f xs) → take (i + 1) (map f xs) ++ put_by_priority b t (drop (i + 1) (map f xs)) ≡ put_by_priority b t (map f xs)
 place_next f b t xs i x l same p q ep eq less h =
     let ts = map f xs in
-    let e : nat_le (zone_of b (f x)).priority (zone_of b t).priority ≡ false = above _ _ (rw (← ep, ← eq) less) in
+    let e : nat_le (task_zone b (f x)).priority (task_zone b t).priority ≡ false = above _ _ (rw (← ep, ← eq) less) in
     let m = below_map f xs i l in
     let at = at_place f xs i x l same in
-    ap (λ us. us ++ put b t (drop (i + 1) ts)) (take_more ts i (f x) m ∙ ap (λ u. take i ts ++ u ∷ []) (sym at))
-    ∙ append_assoc (take i ts) (f x ∷ []) (put b t (drop (i + 1) ts))
-    ∙ ap (λ us. take i ts ++ us) (sym (put_split b t ts i (f x) m at ∙ ap (λ c. cond c (t ∷ drop i ts) (f x ∷ put b t (drop (i + 1) ts))) e)) ∙ h
+    ap (λ us. us ++ put_by_priority b t (drop (i + 1) ts)) (take_more ts i (f x) m ∙ ap (λ u. take i ts ++ u ∷ []) (sym at))
+    ∙ append_assoc (take i ts) (f x ∷ []) (put_by_priority b t (drop (i + 1) ts))
+    ∙ ap (λ us. take i ts ++ us) (sym (put_split b t ts i (f x) m at ∙ ap (λ c. cond c (t ∷ drop i ts) (f x ∷ put_by_priority b t (drop (i + 1) ts))) e)) ∙ h
 
 pub place_last : {V : Type 0} (f : V → Task) (b : Board) (t : Task) (xs : List V) (i n : ℕ) → length xs ≤ i → i ≤ length xs → n ≡ length xs
-    → take i (map f xs) ++ put b t (drop i (map f xs)) ≡ put b t (map f xs) → insert (map f xs) n t ≡ put b t (map f xs)
+    → take i (map f xs) ++ put_by_priority b t (drop i (map f xs)) ≡ put_by_priority b t (map f xs) → insert (map f xs) n t ≡ put_by_priority b t (map f xs)
 place_last f b t xs i n l m e h =
     let ts = map f xs in
     let same : n ≡ i = omega (arith, l, e, m) in
     let k = length-map xs f in
     let none : drop i ts ≡ [] = drop_past ts i (omega (arith, l, k)) in
-    ap (λ j. insert ts j t) same ∙ ap (λ us. take i ts ++ t ∷ us) none ∙ sym (ap (λ us. take i ts ++ put b t us) none) ∙ h
+    ap (λ j. insert ts j t) same ∙ ap (λ us. take i ts ++ t ∷ us) none ∙ sym (ap (λ us. take i ts ++ put_by_priority b t us) none) ∙ h
 
 -- ---- from the last task to the first
-pub back_more : {V : Type 0} (f : V → Task) (b : Board) (xs : List V) (us new : List Task) (k : ℕ) (x : V) → k < length xs → x ≡ get_or xs (length xs - 1 - k) x → new ≡ put b (f x) us
+pub back_more : {V : Type 0} (f : V → Task) (b : Board) (xs : List V) (us new : List Task) (k : ℕ) (x : V) → k < length xs → x ≡ get_or xs (length xs - 1 - k) x → new ≡ put_by_priority b (f x) us
     → us ≡ put_all b (map f (drop (length xs - k) xs)) → new ≡ put_all b (map f (drop (length xs - (k + 1)) xs))
-back_more f b xs us new k x l same e h = e ∙ ap (put b (f x)) h ∙ ap (λ ys. put_all b (map f ys)) (sym (drop_back xs k x l same))
+back_more f b xs us new k x l same e h = e ∙ ap (put_by_priority b (f x)) h ∙ ap (λ ys. put_all b (map f ys)) (sym (drop_back xs k x l same))
 
 pub back_none : {V : Type 0} (f : V → Task) (b : Board) (xs : List V) (new : List Task) → new ≡ [] → new ≡ put_all b (map f (drop (length xs - 0) xs))
 back_none f b xs new e = e ∙ sym (ap (λ ys. put_all b (map f ys)) (drop_past xs (length xs - 0) (omega arith)))

@@ -4,7 +4,7 @@ use Rattle.std.proofs.lemmas.List.{map-append}
 use Rattle.plane.specs.Plane.{Bounds}
 use Rattle.board_language.specs.declared.board.Zone.{Zone}
 use Rattle.board_language.specs.Board.{Board}
-use Rattle.fill_rules.specs.Tasks.{Task, settings_of, zone_of}
+use Rattle.fill_rules.specs.Tasks.{Task, settings_of, task_zone}
 use Rattle.fill_rules.specs.Needs.{Need, at_need, item_needs}
 use Rattle.fill_rules.specs.Reliefs.{thermal_needs}
 use Rattle.knockouts.specs.declared.obstacles.Above.{Above}
@@ -19,7 +19,7 @@ need_more f n os k o done t all l same e h =
     ∙ ap (λ (m : Need). map f done ++ m ∷ at_need n (drop (k + 1) os)) e
     ∙ ap (λ ps. map f done ++ at_need n ps) (sym (drop_here os k o l same)) ∙ h
 
-pub all_needs : {V : Type 0} (f : V → Need) (b : Board) (t : Task) (z : Zone) (above : List Above) (items fills gaps : List V) → z ≡ zone_of b t
+pub all_needs : {V : Type 0} (f : V → Need) (b : Board) (t : Task) (z : Zone) (above : List Above) (items fills gaps : List V) → z ≡ task_zone b t
     → map f items ≡ item_needs b (settings_of z) t.layer → map f fills ≡ flat_map (fill_needs b (settings_of z)) above → map f gaps ≡ flat_map (gap_needs (settings_of z) t.layer) b.pads
     → map f (items ++ (fills ++ gaps)) ≡ needs_of b t above
 unfolding needs_of thermal_needs

@@ -4,7 +4,7 @@ use Rattle.plane.specs.Plane.{PlanePoint, Bounds, In, AreNear}
 use Rattle.classes.specs.Classes.{IsOneOf}
 use Rattle.hulls.specs.Cells.{around}
 use Rattle.board_language.specs.Board.{Board}
-use Rattle.fill_rules.specs.Tasks.{Task, settings_of, zone_of, zone_at, task_at}
+use Rattle.fill_rules.specs.Tasks.{Task, settings_of, task_zone, zone_at, task_at}
 use Rattle.fill_rules.specs.Needs.{Need, item_needs}
 use Rattle.fill_rules.specs.Reach.{IsReaching}
 use Rattle.fill_rules.specs.Fill.{IsClear, fill_of, fills_below}
@@ -29,15 +29,15 @@ pub record AreAbove (b : Board) (i : ℕ) (above : List Above) : Type 0 where
 
 -- the entries before the gaps
 abbrev pub bars_of : Board → Task → List Above → List Need
-bars_of b t above = item_needs b (settings_of (zone_of b t)) t.layer ++ flat_map (fill_needs b (settings_of (zone_of b t))) above
+bars_of b t above = item_needs b (settings_of (task_zone b t)) t.layer ++ flat_map (fill_needs b (settings_of (task_zone b t))) above
 
 -- the octagon keeps each of their needs
 abbrev pub KeepsAll : List Need → Bounds → Type 0
 KeepsAll ns o = (n : Need) → IsOneOf n ns → AreNear n.need o n.oct → ⊥
 
 -- an octagon in the frame of the outline is clear exactly where it keeps the needs of all entries before the gaps
-abbrev pub ClearLaw : Type 0
-ClearLaw =
+abbrev pub ClearByBarsLaw : Type 0
+ClearByBarsLaw =
     (b : Board) (i : ℕ) (above : List Above) (o : Bounds) → IsSound b → AreAbove b i above
     → ((p : PlanePoint) → In o p → In (around (zone_at b i).outline) p)
     → IsClear b (fills_below b i) i o ↔ KeepsAll (bars_of b (task_at b i) above) o

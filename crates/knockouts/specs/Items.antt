@@ -13,8 +13,8 @@ use Rattle.knockouts.specs.declared.items.Items.{Items}
 use Rattle.fills.specs.declared.Task.{Task}
 
 -- the board as the rules of the fill see it
-abbrev pub board_of : Items → Board
-board_of i =
+abbrev pub lent_board : Items → Board
+lent_board i =
     record {
       layers = replicate i.layers [];
       nets = [];
@@ -35,6 +35,7 @@ pub record IsTrackReady (t : Track) : Type 0 where
   pub to : IsInRoom 500000000 t.to
   pub width : t.width ≤ 1000000000
 
+-- the via lies within half a metre, and is at most a metre wide
 pub record IsViaReady (v : Via) : Type 0 where
   pub at : IsInRoom 500000000 v.at
   pub size : v.size ≤ 1000000000
@@ -44,12 +45,13 @@ pub record IsPadReady (p : Pad) : Type 0 where
   pub at : IsInRoom 500000000 p.at
   pub pad : HasPad p
 
+-- both ends lie within half a metre
 pub record IsEdgeReady (e : Edge) : Type 0 where
   pub from : IsInRoom 500000000 e.from
   pub to : IsInRoom 500000000 e.to
 
 -- there are at most 32 layers, and everything lies within reach
-pub record IsReady (i : Items) : Type 0 where
+pub record AreItemsReady (i : Items) : Type 0 where
   pub layers : i.layers ≤ 32
   pub zones : length i.zones.now < 2 ^ 32
   pub tracks : All IsTrackReady i.tracks.now
@@ -59,6 +61,6 @@ pub record IsReady (i : Items) : Type 0 where
   pub floor : 1 ≤ i.rules.floor
 
 -- the task's zone is one of the board's, and its layer one of the 32 that a set of layers may have
-pub record IsInRange (i : Items) (t : Task) : Type 0 where
+pub record IsTaskInRange (i : Items) (t : Task) : Type 0 where
   pub zone : t.zone < length i.zones.now
   pub layer : t.layer < 32

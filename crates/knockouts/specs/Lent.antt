@@ -1,12 +1,12 @@
 -- What a board lends says of it all that the rules ask.
 use Rattle.std.specs.Prelude.{◌≡◌, ◌↔◌, ◌*◌, ℕ, List, length}
 use Rattle.board_language.specs.Board.{Board}
-use Rattle.fill_rules.specs.Tasks.{Task, Settings, ranked, zone_of}
+use Rattle.fill_rules.specs.Tasks.{Task, Settings, ranked, task_zone}
 use Rattle.fill_rules.specs.Reliefs.{thermal_needs, spokes_of}
 use Rattle.fill_rules.specs.Anchors.{anchors_of}
 use Rattle.knockouts.specs.declared.items.Items.{Items}
 use Rattle.knockouts.specs.declared.obstacles.Above.{Above}
-use Rattle.knockouts.specs.Items.{board_of}
+use Rattle.knockouts.specs.Items.{lent_board}
 use Rattle.knockouts.specs.Obstacles.{needs_of}
 use Rattle.knockouts.specs.Reaching.{ReachesTask}
 
@@ -25,14 +25,15 @@ pub record IsLentBy (b : Board) (i : Items) : Type 0 where
 -- reach each other
 pub record AreAlike (b d : Board) : Type 0 where
   pub ranked : ranked b ≡ ranked d
-  pub zones : (t : Task) → zone_of b t ≡ zone_of d t
+  pub zones : (t : Task) → task_zone b t ≡ task_zone d t
   pub needs : (t : Task) (above : List Above) → needs_of b t above ≡ needs_of d t above
   pub spokes : (z : Settings) (l : ℕ) → spokes_of b z l ≡ spokes_of d z l
   pub anchors : (z : Settings) (l : ℕ) → anchors_of b z l ≡ anchors_of d z l
   pub reaches : (s t : Task) → ReachesTask b s t ↔ ReachesTask d s t
 
+-- the board of the items that a board lends is like that board
 abbrev pub LentLaw : Type 0
-LentLaw = (b : Board) (i : Items) → IsLentBy b i → AreAlike (board_of i) b
+LentLaw = (b : Board) (i : Items) → IsLentBy b i → AreAlike (lent_board i) b
 
 -- each gap has four spokes across it
 abbrev pub GapsLaw : Type 0

@@ -1,4 +1,5 @@
 pub mod Items
+pub mod OfTask
 pub mod Treatments
 pub mod Obstacles
 pub mod Spokes

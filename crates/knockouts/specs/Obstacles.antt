@@ -2,25 +2,26 @@
 use Rattle.std.specs.Prelude.{ℕ, ◌++◌, List, flat_map}
 use Rattle.board_language.specs.declared.board.Pad.{Pad}
 use Rattle.board_language.specs.Board.{Board}
-use Rattle.fill_rules.specs.Tasks.{Settings, Task, settings_of, zone_of}
-use Rattle.fill_rules.specs.Needs.{Need, at_need, when, pad_hulls, zone_need, item_needs}
+use Rattle.fill_rules.specs.Tasks.{Settings, Task, settings_of, task_zone}
+use Rattle.fill_rules.specs.Needs.{Need, at_need, keep_when, pad_hulls, zone_need, item_needs}
 use Rattle.fill_rules.specs.Reliefs.{gap_of, is_thermal, thermal_needs}
 use Rattle.knockouts.specs.declared.obstacles.Above.{Above}
 use Rattle.fills.specs.Fills.{task_of}
 
+-- an obstacle, as the rules of the fill see it
 abbrev pub need_of : Rattle.knockouts.specs.declared.obstacles.Need.Need → Need
 need_of n = record { oct = n.oct; need = n.need }
 
 -- the gap round a pad that is joined by spokes, none round another
 abbrev pub gap_needs : Settings → ℕ → Pad → List Need
-gap_needs z l p = when (is_thermal z l p) (at_need (gap_of z p) (pad_hulls p))
+gap_needs z l p = keep_when (is_thermal z l p) (at_need (gap_of z p) (pad_hulls p))
 
 -- the pieces of a fill above, at the need between the two zones
 abbrev pub fill_needs : Board → Settings → Above → List Need
-fill_needs b z a = at_need (zone_need b (settings_of (zone_of b (task_of a.task))) z) a.pieces.now
+fill_needs b z a = at_need (zone_need b (settings_of (task_zone b (task_of a.task))) z) a.pieces.now
 
 -- the items that bar, the fills above, and the gaps round the pads that are joined by spokes
 unfoldable pub needs_of : Board → Task → List Above → List Need
 needs_of b t above =
-    item_needs b (settings_of (zone_of b t)) t.layer
-    ++ (flat_map (fill_needs b (settings_of (zone_of b t))) above ++ thermal_needs b (settings_of (zone_of b t)) t.layer)
+    item_needs b (settings_of (task_zone b t)) t.layer
+    ++ (flat_map (fill_needs b (settings_of (task_zone b t))) above ++ thermal_needs b (settings_of (task_zone b t)) t.layer)

@@ -3,7 +3,7 @@ use Rattle.std.specs.Prelude.{◌≡◌, ◌↔◌, ℕ, ◌<◌, true, length}
 use Rattle.plane.specs.Plane.{AreNear}
 use Rattle.hulls.specs.Cells.{around}
 use Rattle.board_language.specs.Board.{Board}
-use Rattle.fill_rules.specs.Tasks.{Task, settings_of, zone_of, ranked, task_at}
+use Rattle.fill_rules.specs.Tasks.{Task, settings_of, task_zone, ranked, task_at}
 use Rattle.fill_rules.specs.Ranking.{Outranks}
 use Rattle.fill_rules.specs.Needs.{is_foreign, zone_need}
 use Rattle.fill_rules.specs.Reach.{IsReaching}
@@ -13,8 +13,8 @@ use Rattle.fill_rules.specs.Reach.{IsReaching}
 pub record ReachesTask (b : Board) (s t : Task) : Type 0 where
   pub above : Outranks b s t
   pub layer : s.layer ≡ t.layer
-  pub foreign : is_foreign (zone_of b s).net (zone_of b t).net ≡ true
-  pub near : AreNear (zone_need b (settings_of (zone_of b s)) (settings_of (zone_of b t))) (around (zone_of b t).outline) (around (zone_of b s).outline)
+  pub foreign : is_foreign (task_zone b s).net (task_zone b t).net ≡ true
+  pub near : AreNear (zone_need b (settings_of (task_zone b s)) (settings_of (task_zone b t))) (around (task_zone b t).outline) (around (task_zone b s).outline)
 
 -- by their ranks it is the same
 abbrev pub RanksLaw : Type 0

@@ -2,11 +2,11 @@
 ghost use Rattle.std.specs.Prelude.{◌≡◌, ◌↔◌, ◌⊎◌, ◌<◌, ◌≤◌, ℕ, length, true, IsTrue};
 ghost use Rattle.plane.specs.Plane.{AreNear, IsOct};
 ghost use Rattle.hulls.specs.Cells.{around};
-ghost use Rattle.fill_rules.specs.Tasks.{settings_of, zone_of, task_at, ranked};
+ghost use Rattle.fill_rules.specs.Tasks.{settings_of, task_zone, task_at, ranked};
 ghost use Rattle.fill_rules.specs.Ranking.{IsFiled, Outranks};
 ghost use Rattle.fill_rules.specs.Needs.{zone_need};
 ghost use Rattle.fill_rules.specs.Reach.{IsReaching};
-ghost use Rattle.knockouts.specs.Items.{board_of, IsInRange, IsReady};
+ghost use Rattle.knockouts.specs.Items.{lent_board, IsTaskInRange, AreItemsReady};
 ghost use Rattle.fills.specs.Fills.{task_of};
 ghost use Rattle.knockouts.specs.Reaching.{ReachesTask};
 
@@ -20,10 +20,10 @@ use octagon::Oct;
 /// Whether the upper task may change the lower one: it ranks above it, on its layer, their zones are foreign, and the frames
 /// of the two outlines hold points that are near at the need.
 pub fn reach(items: &Items<'_>, upper: Task, lower: Task) -> bool
-    requires ready { IsReady items.now }
-    requires upper { IsInRange items.now upper }
-    requires lower { IsInRange items.now lower }
-    ensures { IsTrue result ↔ ReachesTask (board_of items.now) (task_of upper) (task_of lower) }
+    requires ready { AreItemsReady items.now }
+    requires upper { IsTaskInRange items.now upper }
+    requires lower { IsTaskInRange items.now lower }
+    ensures { IsTrue result ↔ ReachesTask (lent_board items.now) (task_of upper) (task_of lower) }
 {
     let above = outranks(items, upper, lower);
     let zone = zone_of(items, upper);
@@ -35,7 +35,7 @@ pub fn reach(items: &Items<'_>, upper: Task, lower: Task) -> bool
 
 // Whether the upper task ranks above the lower one.
 fn outranks(items: &Items<'_>, upper: Task, lower: Task) -> bool
-    ensures { IsTrue result ↔ Outranks (board_of items.now) (task_of upper) (task_of lower) }
+    ensures { IsTrue result ↔ Outranks (lent_board items.now) (task_of upper) (task_of lower) }
 {
     let priority = priority_of(items, upper);
     let other = priority_of(items, lower);
@@ -51,8 +51,8 @@ fn is_filed(task: Task, other: Task) -> bool
 
 // Whether the frames of the outlines hold points that are near at the need between the zones.
 fn are_frames_near(items: &Items<'_>, upper: &Zone, lower: &Zone) -> bool
-    requires { IsReady items.now }
-    ensures { IsTrue result ↔ AreNear (zone_need (board_of items.now) (settings_of upper.now) (settings_of lower.now)) (around lower.now.outline) (around upper.now.outline) }
+    requires { AreItemsReady items.now }
+    ensures { IsTrue result ↔ AreNear (zone_need (lent_board items.now) (settings_of upper.now) (settings_of lower.now)) (around lower.now.outline) (around upper.now.outline) }
 {
     let need = zone_need(items, upper, lower);
     !frame(lower).apart(&frame(upper), need)

@@ -1,9 +1,9 @@
 // The copper that holds islands of a task.
 ghost use Rattle.std.specs.Prelude.{◌≡◌, ◌∷◌, [], ◌<◌, flat_map, IfOk};
-ghost use Rattle.fill_rules.specs.Tasks.{settings_of, zone_of};
-ghost use Rattle.fill_rules.specs.Anchors.{anchors_of, pad_anchors, via_anchors, track_anchors};
-ghost use Rattle.knockouts.specs.Items.{board_of, IsInRange, IsReady, IsTrackReady, IsViaReady};
-ghost use Rattle.fills.specs.Fills.{task_of};
+ghost use Rattle.fill_rules.specs.Tasks.{settings_of};
+ghost use Rattle.fill_rules.specs.Anchors.{pad_anchors, via_anchors, track_anchors};
+ghost use Rattle.knockouts.specs.Items.{IsTaskInRange, AreItemsReady, IsTrackReady, IsViaReady};
+ghost use Rattle.knockouts.specs.OfTask.{task_anchors};
 
 use crate::copper::{track_copper, via_copper};
 use crate::items::Items;
@@ -71,7 +71,7 @@ fn of_pads(alloc: Global, items: &Items<'_>, zone: &Zone, layer: u8) -> Result<V
 }
 
 fn of_vias(alloc: Global, items: &Items<'_>, zone: &Zone, layer: u8) -> Result<Vec<Shape>, Memory>
-    requires ready { IsReady items.now }
+    requires ready { AreItemsReady items.now }
     requires layer { layer < 32 }
     ensures { IfOk result (λ v. v.items ≡ flat_map (via_anchors (settings_of zone.now) layer) items.now.vias.now) }
 {
@@ -85,7 +85,7 @@ fn of_vias(alloc: Global, items: &Items<'_>, zone: &Zone, layer: u8) -> Result<V
 }
 
 fn of_tracks(alloc: Global, items: &Items<'_>, zone: &Zone, layer: u8) -> Result<Vec<Shape>, Memory>
-    requires { IsReady items.now }
+    requires { AreItemsReady items.now }
     ensures { IfOk result (λ v. v.items ≡ flat_map (track_anchors (settings_of zone.now) layer) items.now.tracks.now) }
 {
     let tracks = items.tracks;
@@ -105,9 +105,9 @@ fn of_tracks(alloc: Global, items: &Items<'_>, zone: &Zone, layer: u8) -> Result
 /// Want of memory.
 #[tactic(auto, unfolding(fill_rules::specs::Anchors::anchors_of))]
 pub fn anchors(alloc: Global, items: &Items<'_>, task: Task) -> Result<Vec<Shape>, Memory>
-    requires ready { IsReady items.now }
-    requires task { IsInRange items.now task }
-    ensures { IfOk result (λ v. v.items ≡ anchors_of (board_of items.now) (settings_of (zone_of (board_of items.now) (task_of task))) task.layer) }
+    requires ready { AreItemsReady items.now }
+    requires task { IsTaskInRange items.now task }
+    ensures { IfOk result (λ v. v.items ≡ task_anchors items.now task) }
 {
     let zone = zone_of(items, task);
     if zone.net == 0 {

@@ -1,5 +1,5 @@
 //! What the answers mean to the layer above. Nothing here runs.
-ghost use Rattle.knockouts.specs.Clear.{ClearLaw};
+ghost use Rattle.knockouts.specs.Clear.{ClearByBarsLaw};
 ghost use Rattle.knockouts.specs.Lent.{GapsLaw, LentLaw};
 ghost use Rattle.knockouts.specs.Reaching.{RanksLaw};
 
@@ -22,5 +22,5 @@ pub fn gaps_law()
 /// An octagon in the frame of the task's outline is clear exactly where it keeps the need of each entry before the gaps,
 /// where the fills that are handed in are those of the tasks that reach it.
 pub fn clear_law()
-    ensures { ClearLaw }
+    ensures { ClearByBarsLaw }
 {}

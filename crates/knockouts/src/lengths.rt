@@ -3,7 +3,7 @@ ghost use Rattle.std.specs.Prelude.{◌≡◌, ◌+◌, ◌/◌, ◌≤◌, ◌^
 ghost use Rattle.fill_rules.specs.Tasks.{settings_of};
 ghost use Rattle.fill_rules.specs.Needs.{is_foreign, units, item_need, zone_need, edge_need};
 ghost use Rattle.fill_rules.specs.Reliefs.{brush_radius};
-ghost use Rattle.knockouts.specs.Items.{board_of};
+ghost use Rattle.knockouts.specs.Items.{lent_board};
 
 use crate::items::Items;
 use board_language::Zone;
@@ -33,7 +33,7 @@ pub fn is_foreign(net: u32, other: u32) -> bool
 
 /// How far copper of the zone stays from an item with a clearance of its own, in units.
 pub fn item_need(items: &Items<'_>, zone: &Zone, own: u32) -> u32
-    ensures value { result ≡ item_need (board_of items.now) (settings_of zone.now) own }
+    ensures value { result ≡ item_need (lent_board items.now) (settings_of zone.now) own }
     ensures most { result ≤ 2 ^ 31 }
 {
     units(zone.clearance.max(own).max(items.rules.floor))
@@ -41,7 +41,7 @@ pub fn item_need(items: &Items<'_>, zone: &Zone, own: u32) -> u32
 
 /// How far copper of the one zone stays from copper of the other, in units.
 pub fn zone_need(items: &Items<'_>, upper: &Zone, lower: &Zone) -> u32
-    ensures value { result ≡ zone_need (board_of items.now) (settings_of upper.now) (settings_of lower.now) }
+    ensures value { result ≡ zone_need (lent_board items.now) (settings_of upper.now) (settings_of lower.now) }
     ensures most { result ≤ 2 ^ 31 }
 {
     units(upper.clearance.max(lower.clearance).max(items.rules.floor))
@@ -49,7 +49,7 @@ pub fn zone_need(items: &Items<'_>, upper: &Zone, lower: &Zone) -> u32
 
 /// How far copper stays from the board's edge, in units.
 pub fn edge_need(items: &Items<'_>) -> u32
-    ensures value { result ≡ edge_need (board_of items.now) }
+    ensures value { result ≡ edge_need (lent_board items.now) }
     ensures most { result ≤ 2 ^ 31 }
 {
     units(items.rules.edge)

@@ -12,8 +12,6 @@ mod lengths;
 mod obstacles;
 mod pads;
 mod rank;
-#[cfg(test)]
-mod tests;
 mod thermal;
 
 pub use fills::Task;

@@ -1,10 +1,10 @@
 // What copper of a task keeps away from.
 ghost use Rattle.std.specs.Prelude.{◌≡◌, ◌<◌, ◌≤◌, ◌^◌, ◌++◌, flat_map, map, IfOk};
 ghost use Rattle.std.specs.List.{All};
-ghost use Rattle.fill_rules.specs.Tasks.{settings_of, zone_of};
+ghost use Rattle.fill_rules.specs.Tasks.{settings_of, task_zone};
 ghost use Rattle.fill_rules.specs.Needs.{at_need, track_needs, via_needs, pad_needs, edge_needs, item_needs, pad_hulls};
 ghost use Rattle.fill_rules.specs.Reliefs.{gap_of, thermal_needs};
-ghost use Rattle.knockouts.specs.Items.{board_of, IsInRange, IsReady, IsTrackReady, IsViaReady, IsEdgeReady};
+ghost use Rattle.knockouts.specs.Items.{lent_board, IsTaskInRange, AreItemsReady, IsTrackReady, IsViaReady, IsEdgeReady};
 ghost use Rattle.fills.specs.Fills.{task_of};
 ghost use Rattle.knockouts.specs.Obstacles.{need_of, gap_needs, fill_needs, needs_of};
 
@@ -54,7 +54,7 @@ fn of_track(
     track: &Track,
 ) -> Result<Vec<Need>, Memory>
     requires { IsTrackReady track.now }
-    ensures { IfOk result (λ v. map need_of v.items ≡ track_needs (board_of items.now) (settings_of zone.now) layer track.now) }
+    ensures { IfOk result (λ v. map need_of v.items ≡ track_needs (lent_board items.now) (settings_of zone.now) layer track.now) }
 {
     if track.layer == layer && is_foreign(zone.net, track.net) {
         let hulls = track_copper(track).hulls(alloc)?;
@@ -73,7 +73,7 @@ fn of_via(
 ) -> Result<Vec<Need>, Memory>
     requires layer { layer < 32 }
     requires via { IsViaReady via.now }
-    ensures { IfOk result (λ v. map need_of v.items ≡ via_needs (board_of items.now) (settings_of zone.now) layer via.now) }
+    ensures { IfOk result (λ v. map need_of v.items ≡ via_needs (lent_board items.now) (settings_of zone.now) layer via.now) }
 {
     if has_layer(via.layers, layer) && is_foreign(zone.net, via.net) {
         let hulls = via_copper(via).hulls(alloc)?;
@@ -91,7 +91,7 @@ fn of_pad(
     pad: &Pad,
 ) -> Result<Vec<Need>, Memory>
     requires { layer < 32 }
-    ensures { IfOk result (λ v. map need_of v.items ≡ pad_needs (board_of items.now) (settings_of zone.now) layer pad.now) }
+    ensures { IfOk result (λ v. map need_of v.items ≡ pad_needs (lent_board items.now) (settings_of zone.now) layer pad.now) }
 {
     if is_barred(zone, layer, pad) {
         let hulls = pad_hulls(alloc, pad)?;
@@ -103,7 +103,7 @@ fn of_pad(
 // The same of a piece of the board's edge.
 fn of_edge(alloc: Global, items: &Items<'_>, edge: &Edge) -> Result<Vec<Need>, Memory>
     requires { IsEdgeReady edge.now }
-    ensures { IfOk result (λ v. map need_of v.items ≡ edge_needs (board_of items.now) edge.now) }
+    ensures { IfOk result (λ v. map need_of v.items ≡ edge_needs (lent_board items.now) edge.now) }
 {
     let hulls = edge_hulls(alloc, edge)?;
     at_need(alloc, edge_need(items), &hulls)
@@ -138,8 +138,8 @@ pub fn gap_of(zone: &Zone, pad: &Pad) -> u32
 }
 
 fn of_tracks(alloc: Global, items: &Items<'_>, zone: &Zone, layer: u8) -> Result<Vec<Need>, Memory>
-    requires { IsReady items.now }
-    ensures { IfOk result (λ v. map need_of v.items ≡ flat_map (track_needs (board_of items.now) (settings_of zone.now) layer) items.now.tracks.now) }
+    requires { AreItemsReady items.now }
+    ensures { IfOk result (λ v. map need_of v.items ≡ flat_map (track_needs (lent_board items.now) (settings_of zone.now) layer) items.now.tracks.now) }
 {
     let tracks = items.tracks;
     let mut needs = Vec::new(alloc);
@@ -151,9 +151,9 @@ fn of_tracks(alloc: Global, items: &Items<'_>, zone: &Zone, layer: u8) -> Result
 }
 
 fn of_vias(alloc: Global, items: &Items<'_>, zone: &Zone, layer: u8) -> Result<Vec<Need>, Memory>
-    requires ready { IsReady items.now }
+    requires ready { AreItemsReady items.now }
     requires layer { layer < 32 }
-    ensures { IfOk result (λ v. map need_of v.items ≡ flat_map (via_needs (board_of items.now) (settings_of zone.now) layer) items.now.vias.now) }
+    ensures { IfOk result (λ v. map need_of v.items ≡ flat_map (via_needs (lent_board items.now) (settings_of zone.now) layer) items.now.vias.now) }
 {
     let vias = items.vias;
     let mut needs = Vec::new(alloc);
@@ -166,7 +166,7 @@ fn of_vias(alloc: Global, items: &Items<'_>, zone: &Zone, layer: u8) -> Result<V
 
 fn of_pads(alloc: Global, items: &Items<'_>, zone: &Zone, layer: u8) -> Result<Vec<Need>, Memory>
     requires { layer < 32 }
-    ensures { IfOk result (λ v. map need_of v.items ≡ flat_map (pad_needs (board_of items.now) (settings_of zone.now) layer) items.now.pads.now) }
+    ensures { IfOk result (λ v. map need_of v.items ≡ flat_map (pad_needs (lent_board items.now) (settings_of zone.now) layer) items.now.pads.now) }
 {
     let pads = items.pads;
     let mut needs = Vec::new(alloc);
@@ -178,8 +178,8 @@ fn of_pads(alloc: Global, items: &Items<'_>, zone: &Zone, layer: u8) -> Result<V
 }
 
 fn of_edges(alloc: Global, items: &Items<'_>) -> Result<Vec<Need>, Memory>
-    requires { IsReady items.now }
-    ensures { IfOk result (λ v. map need_of v.items ≡ flat_map (edge_needs (board_of items.now)) items.now.edges.now) }
+    requires { AreItemsReady items.now }
+    ensures { IfOk result (λ v. map need_of v.items ≡ flat_map (edge_needs (lent_board items.now)) items.now.edges.now) }
 {
     let edges = items.edges;
     let mut needs = Vec::new(alloc);
@@ -207,9 +207,9 @@ fn of_gaps(alloc: Global, items: &Items<'_>, zone: &Zone, layer: u8) -> Result<V
 // and the board's edge.
 #[tactic(auto, unfolding(fill_rules::specs::Needs::item_needs))]
 fn of_items(alloc: Global, items: &Items<'_>, zone: &Zone, layer: u8) -> Result<Vec<Need>, Memory>
-    requires ready { IsReady items.now }
+    requires ready { AreItemsReady items.now }
     requires layer { layer < 32 }
-    ensures { IfOk result (λ v. map need_of v.items ≡ item_needs (board_of items.now) (settings_of zone.now) layer) }
+    ensures { IfOk result (λ v. map need_of v.items ≡ item_needs (lent_board items.now) (settings_of zone.now) layer) }
 {
     let mut edges = of_edges(alloc, items)?;
     let mut pads = of_pads(alloc, items, zone, layer)?;
@@ -228,8 +228,8 @@ fn of_fill(
     zone: &Zone,
     above: &Above<'_>,
 ) -> Result<Vec<Need>, Memory>
-    requires { IsInRange items.now above.now.task }
-    ensures { IfOk result (λ v. map need_of v.items ≡ fill_needs (board_of items.now) (settings_of zone.now) above.now) }
+    requires { IsTaskInRange items.now above.now.task }
+    ensures { IfOk result (λ v. map need_of v.items ≡ fill_needs (lent_board items.now) (settings_of zone.now) above.now) }
 {
     at_need(
         alloc,
@@ -244,8 +244,8 @@ fn of_fills(
     zone: &Zone,
     above: &[Above<'_>],
 ) -> Result<Vec<Need>, Memory>
-    requires { All (λ a. IsInRange items.now a.task) above.now }
-    ensures { IfOk result (λ v. map need_of v.items ≡ flat_map (fill_needs (board_of items.now) (settings_of zone.now)) above.now) }
+    requires { All (λ a. IsTaskInRange items.now a.task) above.now }
+    ensures { IfOk result (λ v. map need_of v.items ≡ flat_map (fill_needs (lent_board items.now) (settings_of zone.now)) above.now) }
 {
     let mut needs = Vec::new(alloc);
     'each: for one in above {
@@ -269,10 +269,10 @@ pub fn needs(
     task: Task,
     above: &[Above<'_>],
 ) -> Result<Vec<Need>, Memory>
-    requires ready { IsReady items.now }
-    requires task { IsInRange items.now task }
-    requires above { All (λ a. IsInRange items.now a.task) above.now }
-    ensures { IfOk result (λ v. map need_of v.items ≡ needs_of (board_of items.now) (task_of task) above.now) }
+    requires ready { AreItemsReady items.now }
+    requires task { IsTaskInRange items.now task }
+    requires above { All (λ a. IsTaskInRange items.now a.task) above.now }
+    ensures { IfOk result (λ v. map need_of v.items ≡ needs_of (lent_board items.now) (task_of task) above.now) }
 {
     let zone = zone_of(items, task);
     let mut gaps = of_gaps(alloc, items, zone, task.layer)?;

@@ -1,8 +1,8 @@
 // The tasks of a board in rank order.
 ghost use Rattle.std.specs.Prelude.{◌≡◌, ◌++◌, ◌∷◌, [], ◌<◌, ◌≤◌, cond, length, map, IfOk};
 ghost use Rattle.std.specs.List.{All, insert};
-ghost use Rattle.fill_rules.specs.Tasks.{ranked, put, put_all, tasks_from, has_layer, layers_below, zone_of};
-ghost use Rattle.knockouts.specs.Items.{board_of, IsInRange, IsReady};
+ghost use Rattle.fill_rules.specs.Tasks.{ranked, put_by_priority, put_all, tasks_from, has_layer, layers_below, task_zone};
+ghost use Rattle.knockouts.specs.Items.{lent_board, IsTaskInRange, AreItemsReady};
 ghost use Rattle.fills.specs.Fills.{task_of};
 
 use crate::items::Items;
@@ -18,9 +18,9 @@ use std::alloc::Global;
 /// Want of memory.
 #[tactic(auto, unfolding(fill_rules::specs::Tasks::ranked))]
 pub fn tasks(alloc: Global, items: &Items<'_>) -> Result<Vec<Task>, Memory>
-    requires { IsReady items.now }
-    ensures order { IfOk result (λ tasks. map task_of tasks.items ≡ ranked (board_of items.now)) }
-    ensures each { IfOk result (λ tasks. All (IsInRange items.now) tasks.items) }
+    requires { AreItemsReady items.now }
+    ensures order { IfOk result (λ tasks. map task_of tasks.items ≡ ranked (lent_board items.now)) }
+    ensures each { IfOk result (λ tasks. All (IsTaskInRange items.now) tasks.items) }
 {
     let filed = filed_tasks(alloc, items)?;
     let ranked = in_order(alloc, items, &filed)?;
@@ -29,7 +29,7 @@ pub fn tasks(alloc: Global, items: &Items<'_>) -> Result<Vec<Task>, Memory>
 
 // The tasks, put into their places from the last to the first.
 fn in_order(alloc: Global, items: &Items<'_>, filed: &[Task]) -> Result<Vec<Task>, Memory>
-    ensures { IfOk result (λ tasks. map task_of tasks.items ≡ put_all (board_of items.now) (map task_of filed.now)) }
+    ensures { IfOk result (λ tasks. map task_of tasks.items ≡ put_all (lent_board items.now) (map task_of filed.now)) }
 {
     let mut ranked = Vec::with_capacity(alloc, filed.len())?;
     'each: for step in 0..filed.len() {
@@ -41,7 +41,7 @@ fn in_order(alloc: Global, items: &Items<'_>, filed: &[Task]) -> Result<Vec<Task
 
 // Puts a task before those of no greater priority.
 fn put(items: &Items<'_>, ranked: Vec<Task>, task: Task) -> Result<Vec<Task>, Memory>
-    ensures { IfOk result (λ tasks. map task_of tasks.items ≡ put (board_of items.now) (task_of task) (map task_of ranked.items)) }
+    ensures { IfOk result (λ tasks. map task_of tasks.items ≡ put_by_priority (lent_board items.now) (task_of task) (map task_of ranked.items)) }
 {
     let mut ranked = ranked;
     let place = place_of(items, &ranked, task);
@@ -51,7 +51,7 @@ fn put(items: &Items<'_>, ranked: Vec<Task>, task: Task) -> Result<Vec<Task>, Me
 
 // The place of the first task of no greater priority; behind all where there is none.
 fn place_of(items: &Items<'_>, ranked: &[Task], task: Task) -> usize
-    ensures place { insert (map task_of ranked.now) result (task_of task) ≡ put (board_of items.now) (task_of task) (map task_of ranked.now) }
+    ensures place { insert (map task_of ranked.now) result (task_of task) ≡ put_by_priority (lent_board items.now) (task_of task) (map task_of ranked.now) }
     ensures most { result ≤ length ranked.now }
 {
     let priority = priority_of(items, task);
@@ -64,9 +64,9 @@ fn place_of(items: &Items<'_>, ranked: &[Task], task: Task) -> usize
 }
 
 /// The priority of the task's zone.
-#[tactic(auto, unfolding(fill_rules::specs::Tasks::zone_of))]
+#[tactic(auto, unfolding(fill_rules::specs::Tasks::task_zone))]
 pub fn priority_of(items: &Items<'_>, task: Task) -> u32
-    ensures { result ≡ (zone_of (board_of items.now) (task_of task)).priority }
+    ensures { result ≡ (task_zone (lent_board items.now) (task_of task)).priority }
 {
     let place = task.zone as usize;
     if place < items.zones.len() {
@@ -78,7 +78,7 @@ pub fn priority_of(items: &Items<'_>, task: Task) -> u32
 
 // The tasks of all zones in file order, each zone's by layer.
 fn filed_tasks(alloc: Global, items: &Items<'_>) -> Result<Vec<Task>, Memory>
-    requires { IsReady items.now }
+    requires { AreItemsReady items.now }
     ensures { IfOk result (λ tasks. map task_of tasks.items ≡ tasks_from items.now.layers 0 items.now.zones.now) }
 {
     let zones = items.zones;
@@ -121,10 +121,10 @@ pub fn has_layer(layers: u32, layer: u8) -> bool
 }
 
 /// The task's zone.
-#[tactic(auto, unfolding(fill_rules::specs::Tasks::zone_of))]
+#[tactic(auto, unfolding(fill_rules::specs::Tasks::task_zone))]
 pub fn zone_of<'a>(items: &Items<'a>, task: Task) -> &'a Zone
-    requires { IsInRange items.now task }
-    ensures { result.now ≡ zone_of (board_of items.now) (task_of task) }
+    requires { IsTaskInRange items.now task }
+    ensures { result.now ≡ task_zone (lent_board items.now) (task_of task) }
 {
     let zones = items.zones;
     &zones[task.zone as usize]

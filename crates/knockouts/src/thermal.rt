@@ -12,11 +12,11 @@ ghost use Rattle.octagon.specs.Room.{IsAround};
 ghost use Rattle.octagon.specs.Bounded.{IsNearZero};
 ghost use Rattle.cores.specs.Room.{IsInRoom};
 ghost use Rattle.hulls.specs.Cells.{floor_of};
-ghost use Rattle.fill_rules.specs.Tasks.{settings_of, zone_of};
+ghost use Rattle.fill_rules.specs.Tasks.{settings_of};
 ghost use Rattle.fill_rules.specs.Needs.{pad_hulls};
-ghost use Rattle.fill_rules.specs.Reliefs.{half_bridge, spokes_by, pad_spokes, spokes_of};
-ghost use Rattle.knockouts.specs.Items.{board_of, IsInRange, IsReady, IsPadReady};
-ghost use Rattle.fills.specs.Fills.{task_of};
+ghost use Rattle.fill_rules.specs.Reliefs.{half_bridge, spokes_by, pad_spokes};
+ghost use Rattle.knockouts.specs.Items.{IsTaskInRange, AreItemsReady, IsPadReady};
+ghost use Rattle.knockouts.specs.OfTask.{task_spokes};
 ghost use Rattle.knockouts.specs.Spokes.{IsRelief, IsSpokeHull, thermal_spokes, four_spokes, east_spoke, south_spoke, west_spoke, north_spoke};
 
 use crate::items::Items;
@@ -38,15 +38,15 @@ use std::alloc::Global;
 /// Want of memory.
 #[tactic(auto, unfolding(fill_rules::specs::Reliefs::spokes_of))]
 pub fn spokes(alloc: Global, items: &Items<'_>, task: Task) -> Result<Vec<Oct>, Memory>
-    requires ready { IsReady items.now }
-    requires task { IsInRange items.now task }
-    ensures { IfOk result (λ v. v.items ≡ spokes_of (board_of items.now) (settings_of (zone_of (board_of items.now) (task_of task))) task.layer) }
+    requires ready { AreItemsReady items.now }
+    requires task { IsTaskInRange items.now task }
+    ensures { IfOk result (λ v. v.items ≡ task_spokes items.now task) }
 {
     of_pads(alloc, items, zone_of(items, task), task.layer)
 }
 
 fn of_pads(alloc: Global, items: &Items<'_>, zone: &Zone, layer: u8) -> Result<Vec<Oct>, Memory>
-    requires ready { IsReady items.now }
+    requires ready { AreItemsReady items.now }
     requires layer { layer < 32 }
     ensures { IfOk result (λ v. v.items ≡ flat_map (thermal_spokes (settings_of zone.now) layer) items.now.pads.now) }
 {

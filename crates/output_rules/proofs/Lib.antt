@@ -1,5 +1,4 @@
 pub mod Joined
-pub mod Solid
 pub mod Replacing
 pub mod Reporting
 pub mod Reports

@@ -9,19 +9,20 @@ use Rattle.sexpr_text.specs.Grammar.{Forest, Items, is_space}
 use Rattle.sexpr_text.specs.Grammar.Forest.{Nil, Word, Text, Group}
 use Rattle.sexpr_text.specs.Items.{Item, items_of, is_headed}
 use Rattle.sexpr_text.specs.Trees.{IsRoot}
-use Rattle.board_fields.specs.Lists.{is_list, lists_of}
+use Rattle.board_text.specs.Lists.{is_list, lists_of}
 use Rattle.board_language.specs.declared.board.Zone as zones
 use Rattle.board_language.specs.declared.board.Rules.{Rules}
 use Rattle.board_language.specs.Board.{Board}
-use Rattle.board_language.specs.Fields.{head_begins}
-use Rattle.board_language.specs.Items.{Context, solid_end, span_of}
-use Rattle.board_language.specs.Things.{Placed, Thing, InFootprint, Zone, Pad, FootprintDrawing, FootprintZone, Other, thing_of, on_board, in_footprint, with_own, items_of_board}
+use Rattle.board_text.specs.Fields.{head_begins}
+use Rattle.board_text.specs.Items.{Context, solid_end, span_of, context_of}
+use Rattle.board_text.specs.Things.{Placed, Thing, InFootprint, Zone, Pad, FootprintDrawing, FootprintZone, Other, thing_of, on_board, in_footprint, with_own, items_of_board}
 use Rattle.board_language.specs.Zones.{is_fill, is_read_zone, zone_of, spans_of}
-use Rattle.board_language.specs.Reading.{zone_from, all_of, board_of, context_of}
-use Rattle.output_rules.specs.Pieces.{Piece, AreInOrder, replaced}
-use Rattle.output_rules.specs.Output.{Traced, old_fill, zone_pieces, rings_text, pieces_from, pieces_of, text_with_rings}
+use Rattle.board_language.specs.Reading.{zone_from, all_of, board_of}
+use Rattle.output_rules.specs.Pieces.{Piece, ArePiecesInOrder, replaced}
+use Rattle.rings.specs.Rings.{Traced}
+use Rattle.output_rules.specs.Output.{old_fill, zone_pieces, rings_text, pieces_from, board_pieces, text_with_rings}
 use Rattle.output_rules.specs.Laws.{PlacedLaw, SomeBytesLaw}
-use Rattle.output_rules.proofs.Solid.{solid}
+use Rattle.board_text.proofs.Solid.{solid}
 use Rattle.output_rules.proofs.Replacing.{order}
 
 -- ---- white space
@@ -62,22 +63,22 @@ behind bytes n byte s e f = record { some = s; byte = subst (λ (c : ℕ). is_sp
 
 -- ---- lists of pieces
 
-pub weaken : (a b : ℕ) (end last : ℕ) (ps : List Piece) → a ≤ b → end ≤ last → AreInOrder b end ps → AreInOrder a last ps
-unfolding AreInOrder
+pub weaken : (a b : ℕ) (end last : ℕ) (ps : List Piece) → a ≤ b → end ≤ last → ArePiecesInOrder b end ps → ArePiecesInOrder a last ps
+unfolding ArePiecesInOrder
 weaken a b end last [] l k h = omega (arith, l, k, h)
 weaken a b end last (p ∷ ps) l k h = (omega (arith, l, h.0), h.1, weaken p.to p.to end last ps (omega arith) k h.2)
 
-joined : (a b c : ℕ) (ps qs : List Piece) → AreInOrder a b ps → AreInOrder b c qs → AreInOrder a c (ps ++ qs)
-unfolding AreInOrder
+joined : (a b c : ℕ) (ps qs : List Piece) → ArePiecesInOrder a b ps → ArePiecesInOrder b c qs → ArePiecesInOrder a c (ps ++ qs)
+unfolding ArePiecesInOrder
 joined a b c [] qs h g = weaken a b c c qs h (omega arith) g
 joined a b c (p ∷ ps) qs h g = (h.0, h.1, joined p.to b c ps qs h.2 g)
 
-one_more : (a b c : ℕ) (put : List ℕ) (ps : List Piece) → a ≤ b → AreInOrder b c ps → AreInOrder a c (record { from = b; to = b; put = put } ∷ ps)
-unfolding AreInOrder
+one_more : (a b c : ℕ) (put : List ℕ) (ps : List Piece) → a ≤ b → ArePiecesInOrder b c ps → ArePiecesInOrder a c (record { from = b; to = b; put = put } ∷ ps)
+unfolding ArePiecesInOrder
 one_more a b c put ps l h = (l, omega arith, h)
 
-ends : (n end : ℕ) → n ≤ end → AreInOrder n end []
-unfolding AreInOrder
+ends : (n end : ℕ) → n ≤ end → ArePiecesInOrder n end []
+unfolding ArePiecesInOrder
 ends n end l = l
 
 -- ---- the fills of a zone
@@ -88,8 +89,8 @@ fills_among bytes f = map (old_fill bytes) (map span_of (filter (is_fill bytes) 
 abbrev list_item : ℕ → ℕ → Forest → Item
 list_item from to inner = record { kind = kinds.List; from = from; to = to; inner = inner }
 
-fills_in_order : (bytes : List ℕ) (room at end lower : ℕ) (f : Forest) → Items bytes room at end f → IsSolid bytes lower → lower ≤ at → AreInOrder lower (solid_end bytes end) (fills_among bytes f)
-unfolding AreInOrder
+fills_in_order : (bytes : List ℕ) (room at end lower : ℕ) (f : Forest) → Items bytes room at end f → IsSolid bytes lower → lower ≤ at → ArePiecesInOrder lower (solid_end bytes end) (fills_among bytes f)
+unfolding ArePiecesInOrder
 fills_in_order bytes room at end lower Nil i s l = solid_below bytes lower end s (omega (arith, l, i.order))
 fills_in_order bytes room at end lower (Word from to rest) i s l = fills_in_order bytes room to end lower rest i.2 s (omega (arith, l, i.0.order, i.1.order))
 fills_in_order bytes room at end lower (Text from to rest) i s l = fills_in_order bytes room to end lower rest i.2 s (omega (arith, l, i.0.order, i.1.order))
@@ -101,8 +102,8 @@ fills_in_order bytes room at end lower (Group from to inner rest) i s l =
     pick (is_fill bytes (list_item from to inner)) start (omega (arith, short, i.1.order))
     (fills_in_order bytes room to end to rest i.3 close (omega arith)) (fills_in_order bytes room to end lower rest i.3 s (omega (arith, from_low, i.1.order)))
   where
-    pick : (b : Bool) → lower ≤ solid_end bytes from → solid_end bytes from ≤ to → AreInOrder to (solid_end bytes end) (fills_among bytes rest) → AreInOrder lower (solid_end bytes end) (fills_among bytes rest)
-        → AreInOrder lower (solid_end bytes end)
+    pick : (b : Bool) → lower ≤ solid_end bytes from → solid_end bytes from ≤ to → ArePiecesInOrder to (solid_end bytes end) (fills_among bytes rest) → ArePiecesInOrder lower (solid_end bytes end) (fills_among bytes rest)
+        → ArePiecesInOrder lower (solid_end bytes end)
         (map (old_fill bytes) (map span_of (cond b (list_item from to inner ∷ filter (is_fill bytes) (filter is_list (items_of rest))) (filter (is_fill bytes) (filter is_list (items_of rest))))))
     pick true p q gone kept = (p, q, gone)
     pick false p q gone kept = kept
@@ -122,18 +123,18 @@ as_zone c item _ = inl refl
 
 -- what is written of a zone lies inside it, behind its opening parenthesis and before its closing one
 one_zone : (c : Context) (room from to : ℕ) (inner : Forest) (rings : List ℕ) → slice_index c.bytes from ≡ 40 → from + 1 < to → Items c.bytes room (from + 1) (to - 1) inner
-    → AreInOrder (from + 1) to (zone_pieces c.bytes (zone_of c (list_item from to inner)).spans rings)
+    → ArePiecesInOrder (from + 1) to (zone_pieces c.bytes (zone_of c (list_item from to inner)).spans rings)
 unfolding zone_of spans_of
 one_zone c room from to inner rings opening order i =
     let back : from + 1 - 1 ≡ from = omega arith in
     let opened : IsSolid c.bytes (from + 1) = behind c.bytes (from + 1) 40 (omega arith) (ap (slice_index c.bytes) back ∙ opening) refl in
     let tail = solid_end c.bytes (to - 1) in
     let short : tail ≤ to - 1 = solid_within c.bytes (to - 1) in
-    let fills : AreInOrder (from + 1) tail (fills_among c.bytes inner) = fills_in_order c.bytes room (from + 1) (to - 1) (from + 1) inner i opened (omega arith) in
+    let fills : ArePiecesInOrder (from + 1) tail (fills_among c.bytes inner) = fills_in_order c.bytes room (from + 1) (to - 1) (from + 1) inner i opened (omega arith) in
     joined (from + 1) tail to (fills_among c.bytes inner) (record { from = tail; to = tail; put = rings } ∷ []) fills (one_more tail tail to rings [] (omega arith) (ends tail to (omega (arith, short))))
 
 zones_in_order : (c : Context) (b : Board) (traced : List Traced) (room at end lower z : ℕ) (f : Forest) → Items c.bytes room at end f → lower ≤ at
-    → AreInOrder lower end (pieces_from c.bytes b traced z (zones_among c (filter is_list (items_of f))))
+    → ArePiecesInOrder lower end (pieces_from c.bytes b traced z (zones_among c (filter is_list (items_of f))))
 zones_in_order c b traced room at end lower z Nil i l = ends lower end (omega (arith, l, i.order))
 zones_in_order c b traced room at end lower z (Word from to rest) i l = zones_in_order c b traced room to end lower z rest i.2 (omega (arith, l, i.0.order, i.1.order))
 zones_in_order c b traced room at end lower z (Text from to rest) i l = zones_in_order c b traced room to end lower z rest i.2 (omega (arith, l, i.0.order, i.1.order))
@@ -142,9 +143,9 @@ zones_in_order c b traced room at end lower z (Group from to inner rest) i l =
     let others = zones_among c (filter is_list (items_of rest)) in
     let low : lower ≤ from + 1 = omega (arith, l, i.0.order) in
     elim (as_zone c item (on_board c.bytes item)) [
-      | inl none ↦ subst (λ o. AreInOrder lower end (pieces_from c.bytes b traced z (cons_option o others))) (sym none)
+      | inl none ↦ subst (λ o. ArePiecesInOrder lower end (pieces_from c.bytes b traced z (cons_option o others))) (sym none)
           (zones_in_order c b traced room to end lower z rest i.3 (omega (arith, low, i.1.order)))
-      | inr some ↦ subst (λ o. AreInOrder lower end (pieces_from c.bytes b traced z (cons_option o others))) (sym some)
+      | inr some ↦ subst (λ o. ArePiecesInOrder lower end (pieces_from c.bytes b traced z (cons_option o others))) (sym some)
           (joined lower to end (zone_pieces c.bytes (zone_of c item).spans (rings_text b traced z (zone_of c item))) (pieces_from c.bytes b traced (suc z) others)
           (weaken lower (from + 1) to to (zone_pieces c.bytes (zone_of c item).spans (rings_text b traced z (zone_of c item))) low (omega arith)
           (one_zone c (room - 1) from to inner (rings_text b traced z (zone_of c item)) i.1.opening i.1.order i.2))
@@ -193,15 +194,15 @@ board_zones c root = own_zones c (lists_of root)
 
 -- so they lie between the parentheses of the board's list
 placed_in : (c : Context) (root : Item) (b : Board) (traced : List Traced) → IsRoot c.bytes root
-    → AreInOrder (root.from + 1) (root.to - 1) (pieces_from c.bytes b traced 0 (all_of zone_from c (items_of_board c.bytes root)))
+    → ArePiecesInOrder (root.from + 1) (root.to - 1) (pieces_from c.bytes b traced 0 (all_of zone_from c (items_of_board c.bytes root)))
 placed_in c root b traced r =
     let i = r.spelt.items in
-    subst (λ zs. AreInOrder (root.from + 1) (root.to - 1) (pieces_from c.bytes b traced 0 zs)) (sym (board_zones c root))
+    subst (λ zs. ArePiecesInOrder (root.from + 1) (root.to - 1) (pieces_from c.bytes b traced 0 zs)) (sym (board_zones c root))
     (zones_in_order c b traced 63 (root.from + 1) (root.to - 1) (root.from + 1) 0 root.inner i.2 (omega arith))
 
 placed_inside : (text : List ℕ) (root : Item) (rules : Rules) (traced : List Traced) → IsRoot text root
-    → AreInOrder (root.from + 1) (root.to - 1) (pieces_of text (board_of text root rules) traced)
-unfolding board_of context_of pieces_of
+    → ArePiecesInOrder (root.from + 1) (root.to - 1) (board_pieces text (board_of text root rules) traced)
+unfolding board_of context_of board_pieces
 placed_inside text root rules traced r = placed_in (context_of text root) root (board_of text root rules) traced r
 
 root_within : (text : List ℕ) (root : Item) → IsRoot text root → root.to - 1 ≤ length text
@@ -210,7 +211,7 @@ root_within text root r = let i = r.spelt.items in omega (arith, i.1.within)
 pub placed : PlacedLaw
 placed = record {
   inside = placed_inside;
-  within = λ text root rules traced r. weaken 0 (root.from + 1) (root.to - 1) (length text) (pieces_of text (board_of text root rules) traced) (omega arith) (root_within text root r)
+  within = λ text root rules traced r. weaken 0 (root.from + 1) (root.to - 1) (length text) (board_pieces text (board_of text root rules) traced) (omega arith) (root_within text root r)
       (placed_inside text root rules traced r);
 }
 
@@ -221,8 +222,8 @@ some_left [] n l m = absurd (omega (arith, l))
 some_left (c ∷ cs) zero l m = absurd (omega (arith, m))
 some_left (c ∷ cs) (suc n) l m = omega arith
 
-some_replaced : (at end : ℕ) (ps : List Piece) (text : List ℕ) → AreInOrder (at + 1) end ps → 0 < length text → 0 < length (replaced 0 ps text)
-unfolding AreInOrder replaced
+some_replaced : (at end : ℕ) (ps : List Piece) (text : List ℕ) → ArePiecesInOrder (at + 1) end ps → 0 < length text → 0 < length (replaced 0 ps text)
+unfolding ArePiecesInOrder replaced
 some_replaced at end [] text h l = l
 some_replaced at end (p ∷ ps) text h l =
     let from = h.0 in
@@ -235,4 +236,4 @@ some_text text root r = let i = r.spelt.items in omega (arith, i.1.order, i.1.wi
 
 pub some_bytes : SomeBytesLaw
 unfolding text_with_rings
-some_bytes text root rules traced r = some_replaced root.from (root.to - 1) (pieces_of text (board_of text root rules) traced) text (placed_inside text root rules traced r) (some_text text root r)
+some_bytes text root rules traced r = some_replaced root.from (root.to - 1) (board_pieces text (board_of text root rules) traced) text (placed_inside text root rules traced r) (some_text text root r)

@@ -5,7 +5,7 @@ use Rattle.std.proofs.Math.Seq.{take-append_seam, drop-append_seam}
 use Rattle.std.proofs.Math.ListN.{drop_of_length-le}
 use Rattle.std.proofs.lemmas.List.{take-append-drop, length-take-le, drop-drop}
 use Rattle.std.proofs.lemmas.List.Folds.{drop_split}
-use Rattle.output_rules.specs.Pieces.{Piece, IsReplaced, AreInOrder, AreReplaced, replaced, put_size, out_size}
+use Rattle.output_rules.specs.Pieces.{Piece, IsPieceReplaced, ArePiecesInOrder, AreReplaced, replaced, put_size, out_size}
 use Rattle.output_rules.specs.Laws.{ReplacedLaw}
 
 -- ---- what the pieces make
@@ -13,13 +13,13 @@ use Rattle.output_rules.specs.Laws.{ReplacedLaw}
 split2 : (m n : ℕ) (xs : List ℕ) → m ≤ n → xs ≡ take m xs ++ (take (n - m) (drop m xs) ++ drop n xs)
 split2 m n xs l = sym (take-append-drop m xs) ∙ ap (λ t. take m xs ++ t) (drop_split xs m n l)
 
-pub order : (at end : ℕ) (ps : List Piece) → AreInOrder at end ps → at ≤ end
-unfolding AreInOrder
+pub order : (at end : ℕ) (ps : List Piece) → ArePiecesInOrder at end ps → at ≤ end
+unfolding ArePiecesInOrder
 order at end [] h = h
 order at end (p ∷ ps) h = let rest : p.to ≤ end = order p.to end ps h.2 in omega (arith, h.0, h.1, rest)
 
-made : (at end : ℕ) (ps : List Piece) (old : List ℕ) → at + length old ≡ end → AreInOrder at end ps → AreReplaced at ps old (replaced at ps old)
-unfolding AreInOrder AreReplaced replaced
+made : (at end : ℕ) (ps : List Piece) (old : List ℕ) → at + length old ≡ end → ArePiecesInOrder at end ps → AreReplaced at ps old (replaced at ps old)
+unfolding ArePiecesInOrder AreReplaced replaced
 made at end [] old e h = refl
 made at end (p ∷ ps) old e h =
     let last : p.to ≤ end = order p.to end ps h.2 in
@@ -38,7 +38,7 @@ made at end (p ∷ ps) old e h =
     let from_is : at + length (take m old) ≡ p.from = omega (arith, kept_is, h.0) in
     let to_is : p.from + length out ≡ p.to = omega (arith, out_is, h.0, h.1) in
     let end_is : p.to + length rest ≡ end = omega (arith, rest_is, within, e, h.0, h.1) in
-    let this : IsReplaced at p old rest (take m old ++ (p.put ++ replaced p.to ps rest)) (replaced p.to ps rest) =
+    let this : IsPieceReplaced at p old rest (take m old ++ (p.put ++ replaced p.to ps rest)) (replaced p.to ps rest) =
     record { kept = take m old; out = out; from_is = from_is; to_is = to_is; old_is = split2 m n old mn; new_is = refl } in
     (rest, replaced p.to ps rest, this, made p.to end ps rest end_is h.2)
 
@@ -103,28 +103,28 @@ pub split_at : {X : Type 0} (f : X → Piece) (xs : List X) (i : ℕ) (x : X) �
 split_at f xs i x within is =
     ap (map f) (drop-cons xs i x within ∙ ap (λ y. y ∷ drop (suc i) xs) (sym is) ∙ ap (λ k. x ∷ drop k xs) (sym (add-one i)))
 
-pub first_from : (at end : ℕ) (p : Piece) (ps : List Piece) → AreInOrder at end (p ∷ ps) → at ≤ p.from
-unfolding AreInOrder
+pub first_from : (at end : ℕ) (p : Piece) (ps : List Piece) → ArePiecesInOrder at end (p ∷ ps) → at ≤ p.from
+unfolding ArePiecesInOrder
 first_from at end p ps h = h.0
 
-pub first_to : (at end : ℕ) (p : Piece) (ps : List Piece) → AreInOrder at end (p ∷ ps) → p.from ≤ p.to
-unfolding AreInOrder
+pub first_to : (at end : ℕ) (p : Piece) (ps : List Piece) → ArePiecesInOrder at end (p ∷ ps) → p.from ≤ p.to
+unfolding ArePiecesInOrder
 first_to at end p ps h = h.1
 
-pub first_rest : (at end : ℕ) (p : Piece) (ps : List Piece) → AreInOrder at end (p ∷ ps) → AreInOrder p.to end ps
-unfolding AreInOrder
+pub first_rest : (at end : ℕ) (p : Piece) (ps : List Piece) → ArePiecesInOrder at end (p ∷ ps) → ArePiecesInOrder p.to end ps
+unfolding ArePiecesInOrder
 first_rest at end p ps h = h.2
 
 pub last_written : (at : ℕ) (text out all : List ℕ) → out ++ replaced at [] (drop at text) ≡ all → out ++ drop at text ≡ all
 unfolding replaced
 last_written at text out all h = h
 
-pub in_order : (at end : ℕ) (p : Piece) (ps : List Piece) → at ≤ p.from → p.from ≤ p.to → AreInOrder p.to end ps → AreInOrder at end (p ∷ ps)
-unfolding AreInOrder
+pub in_order : (at end : ℕ) (p : Piece) (ps : List Piece) → at ≤ p.from → p.from ≤ p.to → ArePiecesInOrder p.to end ps → ArePiecesInOrder at end (p ∷ ps)
+unfolding ArePiecesInOrder
 in_order at end p ps l k h = (l, k, h)
 
-pub last_in_order : {X : Type 0} (f : X → Piece) (xs : List X) (i at end : ℕ) → length xs ≤ i → (AreInOrder at end (map f (drop i xs)) → at ≤ end) × (at ≤ end → AreInOrder at end (map f (drop i xs)))
-unfolding AreInOrder
+pub last_in_order : {X : Type 0} (f : X → Piece) (xs : List X) (i at end : ℕ) → length xs ≤ i → (ArePiecesInOrder at end (map f (drop i xs)) → at ≤ end) × (at ≤ end → ArePiecesInOrder at end (map f (drop i xs)))
+unfolding ArePiecesInOrder
 last_in_order f xs i at end done =
     let none : drop i xs ≡ [] = drop_of_length-le xs done in
-    (λ h. subst (λ ys. AreInOrder at end (map f ys)) none h, λ h. subst (λ ys. AreInOrder at end (map f ys)) (sym none) h)
+    (λ h. subst (λ ys. ArePiecesInOrder at end (map f ys)) none h, λ h. subst (λ ys. ArePiecesInOrder at end (map f ys)) (sym none) h)

@@ -7,13 +7,14 @@ use Rattle.board_language.specs.Board.{Board}
 use Rattle.ratsnest.proofs.Unique.{tree_one}
 use Rattle.fill_rules.specs.Ranking.{IsSortedBy}
 use Rattle.fill_rules.proofs.Members.{one_of_map, map_one_of}
-use Rattle.cluster_rules.specs.Nodes.{Made, nodes_of}
-use Rattle.cluster_rules.specs.Clusters.{net_of, anchors_of}
-use Rattle.cluster_rules.proofs.Clusters.{one_labelling_law}
+use Rattle.fill_rules.specs.Made.{Made}
+use Rattle.fill_rules.specs.Nodes.{nodes_of}
+use Rattle.fill_rules.specs.Clusters.{node_net, net_anchors}
+use Rattle.fill_rules.proofs.Clusters.{one_labelling_law}
 use Rattle.output_rules.specs.declared.report.TaskLine.{TaskLine}
 use Rattle.output_rules.specs.declared.report.NodeLine.{NodeLine}
 use Rattle.output_rules.specs.Report.{NetLines, Report}
-use Rattle.output_rules.specs.Reported.{with_number, in_order, nets_of, net_lines, AreNetLines}
+use Rattle.output_rules.specs.Reported.{with_number, numbers_in_order, nets_of, net_lines, AreNetLines}
 use Rattle.output_rules.specs.Laws.{IsNetOfNode, IsBelow, NetsLaw, OneReportLaw}
 
 -- ---- numbers in order
@@ -74,36 +75,36 @@ number_sorted n (m ∷ ms) h = pick (nat_lt n m) (n == m) refl refl (number_sort
       k,
     )
 
-order_is : (ns : List ℕ) (k : ℕ) → IsOneOf k (in_order ns) → IsOneOf k ns
+order_is : (ns : List ℕ) (k : ℕ) → IsOneOf k (numbers_in_order ns) → IsOneOf k ns
 unfolding IsOneOf
 order_is [] k h = h
-order_is (n ∷ ns) k h = elim (number_is n (in_order ns) k h) [ inl e ↦ inl e | inr i ↦ inr (order_is ns k i) ]
+order_is (n ∷ ns) k h = elim (number_is n (numbers_in_order ns) k h) [ inl e ↦ inl e | inr i ↦ inr (order_is ns k i) ]
 
-order_in : (ns : List ℕ) (k : ℕ) → IsOneOf k ns → IsOneOf k (in_order ns)
+order_in : (ns : List ℕ) (k : ℕ) → IsOneOf k ns → IsOneOf k (numbers_in_order ns)
 unfolding IsOneOf
 order_in [] k h = h
-order_in (n ∷ ns) k (inl e) = number_in n (in_order ns) k (inl e)
-order_in (n ∷ ns) k (inr i) = number_in n (in_order ns) k (inr (order_in ns k i))
+order_in (n ∷ ns) k (inl e) = number_in n (numbers_in_order ns) k (inl e)
+order_in (n ∷ ns) k (inr i) = number_in n (numbers_in_order ns) k (inr (order_in ns k i))
 
-order_sorted : (ns : List ℕ) → IsSortedBy IsBelow (in_order ns)
+order_sorted : (ns : List ℕ) → IsSortedBy IsBelow (numbers_in_order ns)
 unfolding IsSortedBy
 order_sorted [] = tt
-order_sorted (n ∷ ns) = number_sorted n (in_order ns) (order_sorted ns)
+order_sorted (n ∷ ns) = number_sorted n (numbers_in_order ns) (order_sorted ns)
 
 of_node : (b : Board) (fills : List Made) (net : ℕ) → IsOneOf net (nets_of b fills) → IsNetOfNode b fills net
 unfolding nets_of
 of_node b fills net h =
-    let r = one_of_map (net_of b) net (nodes_of b fills) (order_is (map (net_of b) (nodes_of b fills)) net h) in
+    let r = one_of_map (node_net b) net (nodes_of b fills) (order_is (map (node_net b) (nodes_of b fills)) net h) in
     record { node = r.0; is = r.1; net_is = r.2 }
 
 node_of : (b : Board) (fills : List Made) (net : ℕ) → IsNetOfNode b fills net → IsOneOf net (nets_of b fills)
 unfolding nets_of
 node_of b fills net h =
-    order_in (map (net_of b) (nodes_of b fills)) net (subst (λ n. IsOneOf n (map (net_of b) (nodes_of b fills))) (sym h.net_is) (map_one_of (net_of b) h.node (nodes_of b fills) h.is))
+    order_in (map (node_net b) (nodes_of b fills)) net (subst (λ n. IsOneOf n (map (node_net b) (nodes_of b fills))) (sym h.net_is) (map_one_of (node_net b) h.node (nodes_of b fills) h.is))
 
 sorted : (b : Board) (fills : List Made) → IsSortedBy IsBelow (nets_of b fills)
 unfolding nets_of
-sorted b fills = order_sorted (map (net_of b) (nodes_of b fills))
+sorted b fills = order_sorted (map (node_net b) (nodes_of b fills))
 
 pub nets_law : NetsLaw
 nets_law = record { members = λ b fills net. (of_node b fills net, node_of b fills net); sorted = sorted }
@@ -113,7 +114,7 @@ nets_law = record { members = λ b fills net. (of_node b fills net, node_of b fi
 one_net_lines : (b : Board) (fills : List Made) (labels nets : List ℕ) (ns ms : List NetLines) → AreNetLines b fills labels nets ns → AreNetLines b fills labels nets ms → ns ≡ ms
 one_net_lines b fills labels [] ns ms h g = h ∙ sym g
 one_net_lines b fills labels (net ∷ nets) ns ms h g =
-    let pairs : h.0 ≡ g.0 = tree_one (anchors_of b fills labels net) h.0 g.0 h.2 g.2 in
+    let pairs : h.0 ≡ g.0 = tree_one (net_anchors b fills labels net) h.0 g.0 h.2 g.2 in
     let more : h.1 ≡ g.1 = one_net_lines b fills labels nets h.1 g.1 h.3 g.3 in
     h.4 ∙ ap (λ ps. net_lines b fills labels net ps ∷ h.1) pairs ∙ ap (λ m. net_lines b fills labels net g.0 ∷ m) more ∙ sym g.4
 

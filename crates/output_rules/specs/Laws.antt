@@ -7,16 +7,18 @@ use Rattle.board_language.specs.declared.board.Rules.{Rules}
 use Rattle.board_language.specs.Board.{Board}
 use Rattle.board_language.specs.Reading.{board_of}
 use Rattle.fill_rules.specs.Ranking.{IsSortedBy}
-use Rattle.cluster_rules.specs.Nodes.{Node, Made, nodes_of}
-use Rattle.cluster_rules.specs.Clusters.{net_of}
-use Rattle.output_rules.specs.Pieces.{Piece, AreInOrder, AreReplaced, replaced, put_size, out_size}
-use Rattle.output_rules.specs.Output.{Traced, pieces_of, text_without_fills, text_with_rings}
+use Rattle.fill_rules.specs.Made.{Made}
+use Rattle.fill_rules.specs.Nodes.{Node, nodes_of}
+use Rattle.fill_rules.specs.Clusters.{node_net}
+use Rattle.output_rules.specs.Pieces.{Piece, ArePiecesInOrder, AreReplaced, replaced, put_size, out_size}
+use Rattle.rings.specs.Rings.{Traced}
+use Rattle.output_rules.specs.Output.{board_pieces, text_without_fills, text_with_rings}
 use Rattle.output_rules.specs.Report.{Report}
 use Rattle.output_rules.specs.Reported.{nets_of, IsReport}
 
 -- Pieces that lie in order within a text are replaced, and all other bytes stay, each in its order: by one text and no other.
 pub record ReplacedLaw : Type 0 where
-  pub made : (text : List ℕ) (ps : List Piece) → AreInOrder 0 (length text) ps → AreReplaced 0 ps text (replaced 0 ps text)
+  pub made : (text : List ℕ) (ps : List Piece) → ArePiecesInOrder 0 (length text) ps → AreReplaced 0 ps text (replaced 0 ps text)
   pub one : (text new other : List ℕ) (ps : List Piece) → AreReplaced 0 ps text new → AreReplaced 0 ps text other → new ≡ other
   pub size : (text new : List ℕ) (ps : List Piece) → AreReplaced 0 ps text new → length new + out_size ps ≡ length text + put_size ps
 
@@ -24,8 +26,9 @@ pub record ReplacedLaw : Type 0 where
 pub record IsNetOfNode (b : Board) (fills : List Made) (net : ℕ) : Type 0 where
   pub node : Node
   pub is : IsOneOf node (nodes_of b fills)
-  pub net_is : net ≡ net_of b node
+  pub net_is : net ≡ node_net b node
 
+-- the order of the numbers of nets
 abbrev pub IsBelow : ℕ → ℕ → Type 0
 IsBelow m n = m < n
 
@@ -42,9 +45,9 @@ OneReportLaw = (b : Board) (fills : List Made) (traced : List Traced) (r s : Rep
 -- closing one, and so within its text.
 pub record PlacedLaw : Type 0 where
   pub inside : (text : List ℕ) (root : Item) (rules : Rules) (traced : List Traced) → IsRoot text root
-      → AreInOrder (root.from + 1) (root.to - 1) (pieces_of text (board_of text root rules) traced)
+      → ArePiecesInOrder (root.from + 1) (root.to - 1) (board_pieces text (board_of text root rules) traced)
   pub within : (text : List ℕ) (root : Item) (rules : Rules) (traced : List Traced) → IsRoot text root
-      → AreInOrder 0 (length text) (pieces_of text (board_of text root rules) traced)
+      → ArePiecesInOrder 0 (length text) (board_pieces text (board_of text root rules) traced)
 
 -- So what is written of a board isn't empty.
 abbrev pub SomeBytesLaw : Type 0
@@ -52,4 +55,4 @@ SomeBytesLaw = (text : List ℕ) (root : Item) (rules : Rules) (traced : List Tr
 
 -- Where there are no rings, what is written is the text without its old fills.
 abbrev pub BareLaw : Type 0
-BareLaw = (text : List ℕ) (b : Board) → AreInOrder 0 (length text) (pieces_of text b []) → text_with_rings text b [] ≡ text_without_fills text b
+BareLaw = (text : List ℕ) (b : Board) → ArePiecesInOrder 0 (length text) (board_pieces text b []) → text_with_rings text b [] ≡ text_without_fills text b

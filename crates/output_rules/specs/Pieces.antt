@@ -13,7 +13,7 @@ pub record Piece : Type 0 where
 
 -- The text that is left from a place on begins with the bytes that are kept before the piece and those that it takes out;
 -- the new one begins with the same kept bytes and those that are put in.
-pub record IsReplaced (at : ℕ) (p : Piece) (old rest new more : List ℕ) : Type 0 where
+pub record IsPieceReplaced (at : ℕ) (p : Piece) (old rest new more : List ℕ) : Type 0 where
   pub kept : List ℕ
   pub out : List ℕ
   pub from_is : at + length kept ≡ p.from
@@ -24,12 +24,12 @@ pub record IsReplaced (at : ℕ) (p : Piece) (old rest new more : List ℕ) : Ty
 -- of the text from a place on, the pieces are replaced one after another, and what stands behind the last one stays
 unfoldable pub AreReplaced : ℕ → List Piece → List ℕ → List ℕ → Type 0
 AreReplaced at [] old new = new ≡ old
-AreReplaced at (p ∷ ps) old new = (rest : List ℕ) × (more : List ℕ) × IsReplaced at p old rest new more × AreReplaced p.to ps rest more
+AreReplaced at (p ∷ ps) old new = (rest : List ℕ) × (more : List ℕ) × IsPieceReplaced at p old rest new more × AreReplaced p.to ps rest more
 
 -- the pieces lie between these places, in order, none inside another
-unfoldable pub AreInOrder : ℕ → ℕ → List Piece → Type 0
-AreInOrder at end [] = at ≤ end
-AreInOrder at end (p ∷ ps) = (at ≤ p.from) × (p.from ≤ p.to) × AreInOrder p.to end ps
+unfoldable pub ArePiecesInOrder : ℕ → ℕ → List Piece → Type 0
+ArePiecesInOrder at end [] = at ≤ end
+ArePiecesInOrder at end (p ∷ ps) = (at ≤ p.from) × (p.from ≤ p.to) × ArePiecesInOrder p.to end ps
 
 -- the text from a place on, with the pieces replaced
 unfoldable pub replaced : ℕ → List Piece → List ℕ → List ℕ
@@ -41,6 +41,7 @@ unfoldable pub out_size : List Piece → ℕ
 out_size [] = 0
 out_size (p ∷ ps) = (p.to - p.from) + out_size ps
 
+-- how many bytes are put in
 unfoldable pub put_size : List Piece → ℕ
 put_size [] = 0
 put_size (p ∷ ps) = length p.put + put_size ps

@@ -18,6 +18,7 @@ numbered word n = word ++ decimal n
 
 -- ---- zones: `zone 1 line 7 F.Cu parts 1 polygons 1 area2 199978554154864`
 
+-- the line of a task
 abbrev pub task_text : TaskLine → List ℕ
 task_text t =
     numbered (codes "zone ") t.zone
@@ -28,12 +29,14 @@ task_text t =
 
 -- ---- nodes: `node 0 pad line 25 net 1`, `node 2 part zone 1 F.Cu 1 net 1`
 
+-- what a node is, and where it stands
 abbrev pub copper_text : Copper → List ℕ
 copper_text (Pad line) = numbered (codes " pad line ") line
 copper_text (Track line) = numbered (codes " track line ") line
 copper_text (Via line) = numbered (codes " via line ") line
 copper_text (Part zone layer part) = numbered (codes " part zone ") zone ++ (codes " " ++ (layer ++ numbered (codes " ") part))
 
+-- the line of a node
 abbrev pub node_text : ℕ → NodeLine → List ℕ
 node_text number n = numbered (codes "node ") number ++ (copper_text n.copper ++ (numbered (codes " net ") n.net ++ codes "\n"))
 
@@ -50,18 +53,23 @@ pub record NetLines : Type 0 where
   pub clusters : List (List ℕ)
   pub lines : List RatsnestLine
 
+-- a node of a cluster, behind a space
 abbrev pub member_text : ℕ → List ℕ
 member_text node = numbered (codes " ") node
 
+-- the line of a cluster
 abbrev pub cluster_text : List ℕ → List ℕ
 cluster_text nodes = codes "cluster" ++ (flat_map member_text nodes ++ codes "\n")
 
+-- a point in millimetres, each coordinate behind a space
 abbrev pub point_text : Point → List ℕ
 point_text p = codes " " ++ (mm_of p.x ++ (codes " " ++ mm_of p.y))
 
+-- the line of a ratsnest line
 abbrev pub line_text : RatsnestLine → List ℕ
 line_text l = codes "line" ++ (point_text l.from ++ (point_text l.to ++ (numbered (codes " d2 ") l.square ++ codes "\n")))
 
+-- the lines of a net: its clusters, and then its ratsnest lines
 abbrev pub net_text : NetLines → List ℕ
 net_text n =
     numbered (codes "net ") n.net
@@ -69,18 +77,22 @@ net_text n =
 
 -- ---- the whole: zones, nodes, nets, and how many lines of ratsnests there are
 
+-- what a report says: tasks, nodes and nets, each in its order
 pub record Report : Type 0 where
   pub tasks : List TaskLine
   pub nodes : List NodeLine
   pub nets : List NetLines
 
+-- how many ratsnest lines all nets have together
 unfoldable pub unjoined : List NetLines → ℕ
 unjoined [] = zero
 unjoined (n ∷ ns) = length n.lines + unjoined ns
 
+-- the last line
 abbrev pub unjoined_text : ℕ → List ℕ
 unjoined_text u = numbered (codes "unjoined ") u ++ codes "\n"
 
+-- a report: tasks, nodes, nets, and how many lines are still to be joined
 unfoldable pub report_text : Report → List ℕ
 report_text r = flat_map task_text r.tasks ++ (nodes_text 0 r.nodes ++ (flat_map net_text r.nets ++ unjoined_text (unjoined r.nets)))
 

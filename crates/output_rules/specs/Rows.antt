@@ -7,22 +7,27 @@ use Rattle.board_language.specs.Board.{Board}
 use Rattle.fill_rules.specs.Tasks.{no_zone}
 use Rattle.output_rules.specs.declared.report.Copper.TheVariants as copper
 use Rattle.output_rules.specs.Rings.{quoted}
-use Rattle.output_rules.specs.Output.{Traced, text_without_fills, text_with_rings}
+use Rattle.rings.specs.Rings.{Traced}
+use Rattle.output_rules.specs.Output.{text_without_fills, text_with_rings}
 use Rattle.output_rules.specs.Report.{report_text}
-use Rattle.output_rules.specs.Reported.{in_order, members_of, task_lines}
+use Rattle.output_rules.specs.Reported.{numbers_in_order, members_of, task_lines}
 
 -- ---- a text of two zones, each with an old fill; the second zone has the greater priority, and a layer more
 
+-- two zones with an old fill each: the one before a line feed, the other among its lists
 abbrev pub two_zones_text : List ℕ
 two_zones_text = codes "(b(zone (n) (filled_polygon x)\n)(zone (filled_polygon y) (m)\t))"
 
+-- from one byte to before another
 abbrev pub span : ℕ → ℕ → Span
 span from to = record { from = from; to = to }
 
-abbrev pub zone_with : ℕ → ℕ → Span → ℕ → Zone
-zone_with layers priority fill tail =
+-- a zone of net 1 with an old fill and its tail at these places
+abbrev pub zone_filled_before : ℕ → ℕ → Span → ℕ → Zone
+zone_filled_before layers priority fill tail =
     record no_zone { layers = layers; net = 1; priority = priority; spans = record no_zone.spans { tail = tail; fills = fill ∷ [] }; line = 7 }
 
+-- the board of that text
 abbrev pub two_zones : Board
 two_zones =
     record {
@@ -31,7 +36,7 @@ two_zones =
       tracks = [];
       vias = [];
       pads = [];
-      zones = zone_with 1 0 (span 12 30) 30 ∷ zone_with 3 1 (span 38 56) 60 ∷ [];
+      zones = zone_filled_before 1 0 (span 12 30) 30 ∷ zone_filled_before 3 1 (span 38 56) 60 ∷ [];
       areas = [];
       edges = [];
       rules = record { floor = 200000; edge = 500000 };
@@ -45,7 +50,8 @@ three_rings =
     ∷ record { rings = (record { x = pos 1000000; y = pos 2000000 } ∷ []) ∷ []; area2 = 7 }
     ∷ []
 
-pub record RowsLaw : Type 0 where
+-- what is written of that board and of a name with quotes
+pub record OutputRows : Type 0 where
   -- a backslash stands before each quote and each backslash
   pub quotes : quoted (codes "a\"b\\c") ≡ codes "a\\\"b\\\\c"
   -- the old fills are gone, with the white space before them and not that behind them
@@ -67,6 +73,6 @@ pub record RowsLaw : Type 0 where
   })
       ≡ codes "node 0 track line 7 net 2\nnode 1 via line 8 net 2\nnet 2 clusters 2\ncluster 0\ncluster 1\nline 2 1 2.300001 1.4 d2 250000600001\nunjoined 1\n"
   -- numbers in order, each once
-  pub order : in_order (3 ∷ 1 ∷ 3 ∷ 2 ∷ []) ≡ 1 ∷ 2 ∷ 3 ∷ []
+  pub order : numbers_in_order (3 ∷ 1 ∷ 3 ∷ 2 ∷ []) ≡ 1 ∷ 2 ∷ 3 ∷ []
   -- the nodes of the cluster that node 1 names
   pub members : members_of (0 ∷ 1 ∷ 0 ∷ 1 ∷ []) 1 ≡ 1 ∷ 3 ∷ []

@@ -4,23 +4,22 @@
 #![tactic(auto)]
 
 ghost use Rattle.output_rules.specs.Laws.{ReplacedLaw, PlacedLaw, SomeBytesLaw, BareLaw, NetsLaw, OneReportLaw};
-ghost use Rattle.output_rules.specs.Rows.{RowsLaw};
+ghost use Rattle.output_rules.specs.Rows.{OutputRows};
 
 mod add;
-mod name;
+mod cluster;
 mod pieces;
 mod report;
-mod rings;
-#[cfg(test)]
-mod tests;
+mod ring_text;
 
-pub use name::{Cluster, Name};
+pub use board_language::Name;
+pub use cluster::Cluster;
 pub use pieces::{Piece, are_in_order, replaced, zone_pieces};
 pub use report::{
     Copper, NetLines, NodeLine, RatsnestLine, TaskLine, refilled_text, report_text, summary_text,
     unjoined,
 };
-pub use rings::{Ring, rings_text};
+pub use ring_text::rings_text;
 
 /// Pieces that lie in order within a text are replaced, and all other bytes stay, each in its order: by one text and no other,
 /// of the size that it must have.
@@ -52,5 +51,5 @@ pub fn report_law()
 
 /// Small boards worked by hand: what is written of them, and what is said.
 pub fn rows()
-    ensures { RowsLaw }
+    ensures { OutputRows }
 {}

@@ -1,13 +1,14 @@
 // Pieces of a text that are replaced, and which of them a zone's fill replaces.
 ghost use Rattle.std.specs.Prelude.{◌≡◌, ◌↔◌, length, map, slice_index, IfOk, IsTrue};
 ghost use Rattle.sexpr_text.specs.Grammar.{is_space};
-ghost use Rattle.board_language.specs.Items.{solid_end};
-ghost use Rattle.output_rules.specs.Pieces.{AreInOrder};
+ghost use Rattle.board_text.specs.Items.{solid_end};
+ghost use Rattle.output_rules.specs.Pieces.{ArePiecesInOrder};
 ghost use Rattle.output_rules.specs.Pieces as text_pieces;
 ghost use Rattle.output_rules.specs.Output as output;
 ghost use Rattle.output_rules.specs.Shown.{piece_shown};
 
 use board_language::ZoneSpans;
+use board_text::solid_end;
 use grid_num::Memory;
 use std::alloc::Global;
 
@@ -21,7 +22,7 @@ pub struct Piece {
 
 /// Whether the pieces lie in order within a text of this length, none inside another.
 pub fn are_in_order(pieces: &[Piece], length: usize) -> bool
-    ensures { IsTrue result ↔ (AreInOrder 0 length (map piece_shown pieces.now)) }
+    ensures { IsTrue result ↔ (ArePiecesInOrder 0 length (map piece_shown pieces.now)) }
 {
     let mut at = 0;
     'pieces: for piece in pieces {
@@ -35,7 +36,7 @@ pub fn are_in_order(pieces: &[Piece], length: usize) -> bool
 
 /// The text with these pieces replaced. All other bytes stay, each in its order. Refuses for want of memory alone.
 pub fn replaced(alloc: Global, text: &[u8], pieces: &[Piece]) -> Result<Vec<u8>, Memory>
-    requires { AreInOrder 0 (length text.now) (map piece_shown pieces.now) }
+    requires { ArePiecesInOrder 0 (length text.now) (map piece_shown pieces.now) }
     ensures { IfOk result (λ v. v.items ≡ text_pieces.replaced 0 (map piece_shown pieces.now) text.now) }
 {
     let mut out = Vec::new(alloc);
@@ -47,33 +48,6 @@ pub fn replaced(alloc: Global, text: &[u8], pieces: &[Piece]) -> Result<Vec<u8>,
     }
     out.extend_from_slice(&text[at..])?;
     Ok(out)
-}
-
-fn is_space(byte: u8) -> bool
-    ensures { result ≡ is_space byte }
-{
-    byte == b' ' || byte == b'\t' || byte == b'\r' || byte == b'\n'
-}
-
-/// Whether white space stands at a place.
-fn is_space_at(bytes: &[u8], place: usize) -> bool
-    ensures { result ≡ is_space (slice_index bytes.now place) }
-{
-    match bytes.get(place) {
-        Some(byte) => is_space(*byte),
-        None => false,
-    }
-}
-
-/// Of the first bytes, how many are left without the white space at their end.
-fn solid_end(bytes: &[u8], end: usize) -> usize
-    ensures { result ≡ solid_end bytes.now end }
-{
-    let mut solid = end;
-    'back: while solid > 0 && is_space_at(bytes, solid - 1) {
-        solid -= 1;
-    }
-    solid
 }
 
 /// What a zone's fill replaces: its old fills go, each with the white space directly before it, and what is written of the

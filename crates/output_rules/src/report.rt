@@ -8,7 +8,8 @@ ghost use Rattle.output_rules.specs.Report.{numbered, task_text, copper_text, no
 ghost use Rattle.output_rules.specs.Shown.{net_shown, IsNetInRange};
 
 use crate::add::{add, add_length, add_number};
-use crate::name::{Cluster, Name};
+use crate::cluster::Cluster;
+use board_language::Name;
 use grid_num::{Memory, Point};
 use std::alloc::Global;
 

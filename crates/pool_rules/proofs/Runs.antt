@@ -7,8 +7,8 @@ use Rattle.pool_rules.specs.declared.PoolEvent.{PoolEvent}
 use Rattle.pool_rules.specs.declared.PoolEvent.TheVariants.{Take, Finish, Back}
 use Rattle.pool_rules.specs.declared.Slot.{Slot}
 use Rattle.pool_rules.specs.declared.Slot.TheVariants.{Waiting, Held, Finished, Returned}
-use Rattle.pool_rules.specs.Runs.{State, slot_at, opening, step, run, IsTake, IsEvent, IsReady, IsLawful}
-use Rattle.pool_rules.specs.Laws.{IsUpward, finish_of, finishes, take_of, takes, task_of, IsGoodRun, RunsLaw, HeldLaw, OneTakeLaw, EventsLaw}
+use Rattle.pool_rules.specs.Runs.{PoolState, slot_at, opening, pool_step, run, IsTake, IsEvent, IsReady, IsLawful}
+use Rattle.pool_rules.specs.Laws.{IsUpward, finish_of, finishes, take_of, takes, event_task, IsGoodRun, GoodRunsLaw, HeldLaw, OneTakeLaw, EventsLaw}
 
 -- ---- slots
 abbrev done_of : Slot → ℕ
@@ -90,7 +90,7 @@ done-set xs k i y h a e = elim (cases_eq i k) [
 ]
 
 -- ---- one event
-length_step : (reach : ℕ → ℕ → Bool) (s : State) (e : PoolEvent) → length (step s e).slots ≡ length s.slots
+length_step : (reach : ℕ → ℕ → Bool) (s : PoolState) (e : PoolEvent) → length (pool_step s e).slots ≡ length s.slots
 length_step reach s (Take w i) = length-set s.slots i (Held w)
 length_step reach s (Finish w i) = length-set s.slots i Finished
 length_step reach s (Back w i) = length-set s.slots i Returned
@@ -99,8 +99,8 @@ cond_zero : (b : Bool) → cond {A = ℕ} b 0 0 ≡ 0
 cond_zero true = refl
 cond_zero false = refl
 
-done_step : (reach : ℕ → ℕ → Bool) (s : State) (e : PoolEvent) → IsEvent reach s e → (i : ℕ)
-    → done_of (slot_at (step s e) i) ≡ done_of (slot_at s i) + finish_of i e
+done_step : (reach : ℕ → ℕ → Bool) (s : PoolState) (e : PoolEvent) → IsEvent reach s e → (i : ℕ)
+    → done_of (slot_at (pool_step s e) i) ≡ done_of (slot_at s i) + finish_of i e
 done_step reach s (Take w k) h i =
     let r = done-set s.slots k i (Held w) (waiting_within s.slots k h.ready.waiting) 0 (rw h.ready.waiting refl) in
     r ∙ ap (λ (z : ℕ). done_of (slot_at s i) + z) (cond_zero (k == i))
@@ -109,7 +109,7 @@ done_step reach s (Back w k) h i =
     let r = done-set s.slots k i Returned (held_within s.slots k w h) 0 (rw h refl) in
     r ∙ ap (λ (z : ℕ). done_of (slot_at s i) + z) (cond_zero (k == i))
 
-weigh_step : (reach : ℕ → ℕ → Bool) (s : State) (e : PoolEvent) → IsEvent reach s e → weigh (step s e).slots ≡ weigh s.slots + 1
+weigh_step : (reach : ℕ → ℕ → Bool) (s : PoolState) (e : PoolEvent) → IsEvent reach s e → weigh (pool_step s e).slots ≡ weigh s.slots + 1
 weigh_step reach s (Take w k) h =
     let r = weigh-set s.slots k (Held w) (waiting_within s.slots k h.ready.waiting) in
     let q : rank (slot_at s k) ≡ 0 = ap rank h.ready.waiting in omega arith
@@ -121,7 +121,7 @@ weigh_step reach s (Back w k) h =
     let q : rank (slot_at s k) ≡ 1 = ap rank h in omega arith
 
 -- none stands given back, or one was
-abbrev IsCalm : State → Type 0
+abbrev IsCalm : PoolState → Type 0
 IsCalm s = s.backed ≡ false → (i : ℕ) → slot_at s i ≡ Returned → ⊥
 
 calm-set : (xs : List Slot) (k : ℕ) (y : Slot) → k < length xs → (y ≡ Returned → ⊥) → ((i : ℕ) → get_or xs i Finished ≡ Returned → ⊥)
@@ -131,7 +131,7 @@ calm-set xs k y h ne f i e = elim (cases_eq i k) [
   | inr d ↦ f i (sym (get_or-set_other xs k i y Finished d) ∙ e)
 ]
 
-calm_step : (reach : ℕ → ℕ → Bool) (s : State) (e : PoolEvent) → IsEvent reach s e → IsCalm s → IsCalm (step s e)
+calm_step : (reach : ℕ → ℕ → Bool) (s : PoolState) (e : PoolEvent) → IsEvent reach s e → IsCalm s → IsCalm (pool_step s e)
 calm_step reach s (Take w k) h c b = calm-set s.slots k (Held w) (waiting_within s.slots k h.ready.waiting) (λ e. cc) (c b)
 calm_step reach s (Finish w k) h c b = calm-set s.slots k Finished (held_within s.slots k w h) (λ e. cc) (c b)
 calm_step reach s (Back w k) h c b = absurd (true_false b)
@@ -140,39 +140,39 @@ calm_step reach s (Back w k) h c b = absurd (true_false b)
     true_false e = cc
 
 -- ---- whole runs
-pub lawful_parts : (reach : ℕ → ℕ → Bool) (s : State) (xs ys : List PoolEvent) → IsLawful reach s (xs ++ ys) → IsLawful reach s xs × IsLawful reach (run s xs) ys
+pub lawful_parts : (reach : ℕ → ℕ → Bool) (s : PoolState) (xs ys : List PoolEvent) → IsLawful reach s (xs ++ ys) → IsLawful reach s xs × IsLawful reach (run s xs) ys
 unfolding IsLawful
 lawful_parts reach s [] ys h = (tt, h)
-lawful_parts reach s (x ∷ xs) ys h = let r = lawful_parts reach (step s x) xs ys h.1 in ((h.0, r.0), r.1)
+lawful_parts reach s (x ∷ xs) ys h = let r = lawful_parts reach (pool_step s x) xs ys h.1 in ((h.0, r.0), r.1)
 
-pub lawful_more : (reach : ℕ → ℕ → Bool) (s : State) (xs : List PoolEvent) (e : PoolEvent) → IsLawful reach s xs → IsEvent reach (run s xs) e → IsLawful reach s (xs ++ e ∷ [])
+pub lawful_more : (reach : ℕ → ℕ → Bool) (s : PoolState) (xs : List PoolEvent) (e : PoolEvent) → IsLawful reach s xs → IsEvent reach (run s xs) e → IsLawful reach s (xs ++ e ∷ [])
 unfolding IsLawful
 lawful_more reach s [] e h g = (g, tt)
-lawful_more reach s (x ∷ xs) e h g = (h.0, lawful_more reach (step s x) xs e h.1 g)
+lawful_more reach s (x ∷ xs) e h g = (h.0, lawful_more reach (pool_step s x) xs e h.1 g)
 
-pub run_more : (s : State) (xs : List PoolEvent) (e : PoolEvent) → run s (xs ++ e ∷ []) ≡ step (run s xs) e
+pub run_more : (s : PoolState) (xs : List PoolEvent) (e : PoolEvent) → run s (xs ++ e ∷ []) ≡ pool_step (run s xs) e
 run_more s [] e = refl
-run_more s (x ∷ xs) e = run_more (step s x) xs e
+run_more s (x ∷ xs) e = run_more (pool_step s x) xs e
 
-pub length_run : (reach : ℕ → ℕ → Bool) (s : State) (es : List PoolEvent) → length (run s es).slots ≡ length s.slots
+pub length_run : (reach : ℕ → ℕ → Bool) (s : PoolState) (es : List PoolEvent) → length (run s es).slots ≡ length s.slots
 length_run reach s [] = refl
-length_run reach s (e ∷ es) = length_run reach (step s e) es ∙ length_step reach s e
+length_run reach s (e ∷ es) = length_run reach (pool_step s e) es ∙ length_step reach s e
 
-done_run : (reach : ℕ → ℕ → Bool) (s : State) (es : List PoolEvent) → IsLawful reach s es → (i : ℕ)
+done_run : (reach : ℕ → ℕ → Bool) (s : PoolState) (es : List PoolEvent) → IsLawful reach s es → (i : ℕ)
     → done_of (slot_at (run s es) i) ≡ done_of (slot_at s i) + finishes i es
 unfolding IsLawful
 done_run reach s [] h i = omega arith
-done_run reach s (e ∷ es) h i = omega (arith, done_run reach (step s e) es h.1 i, done_step reach s e h.0 i)
+done_run reach s (e ∷ es) h i = omega (arith, done_run reach (pool_step s e) es h.1 i, done_step reach s e h.0 i)
 
-weigh_run : (reach : ℕ → ℕ → Bool) (s : State) (es : List PoolEvent) → IsLawful reach s es → weigh (run s es).slots ≡ weigh s.slots + length es
+weigh_run : (reach : ℕ → ℕ → Bool) (s : PoolState) (es : List PoolEvent) → IsLawful reach s es → weigh (run s es).slots ≡ weigh s.slots + length es
 unfolding IsLawful
 weigh_run reach s [] h = omega arith
-weigh_run reach s (e ∷ es) h = omega (arith, weigh_run reach (step s e) es h.1, weigh_step reach s e h.0)
+weigh_run reach s (e ∷ es) h = omega (arith, weigh_run reach (pool_step s e) es h.1, weigh_step reach s e h.0)
 
-calm_run : (reach : ℕ → ℕ → Bool) (s : State) (es : List PoolEvent) → IsLawful reach s es → IsCalm s → IsCalm (run s es)
+calm_run : (reach : ℕ → ℕ → Bool) (s : PoolState) (es : List PoolEvent) → IsLawful reach s es → IsCalm s → IsCalm (run s es)
 unfolding IsLawful
 calm_run reach s [] h c = c
-calm_run reach s (e ∷ es) h c = calm_run reach (step s e) es h.1 (calm_step reach s e h.0 c)
+calm_run reach s (e ∷ es) h c = calm_run reach (pool_step s e) es h.1 (calm_step reach s e h.0 c)
 
 opening_calm : (n : ℕ) → IsCalm (opening n)
 opening_calm n b i e = go n i e
@@ -183,10 +183,10 @@ opening_calm n b i e = go n i e
     go (suc m) (suc k) f = go m k f
 
 -- ---- the least unfinished task
-abbrev HasLeast : State → Type 0
+abbrev HasLeast : PoolState → Type 0
 HasLeast s = (k : ℕ) × (done_of (slot_at s k) ≡ 0) × ((j : ℕ) → j < k → done_of (slot_at s j) ≡ 1)
 
-least_below : (s : State) (n : ℕ) → HasLeast s ⊎ ((j : ℕ) → j < n → done_of (slot_at s j) ≡ 1)
+least_below : (s : PoolState) (n : ℕ) → HasLeast s ⊎ ((j : ℕ) → j < n → done_of (slot_at s j) ≡ 1)
 least_below s zero = inr (λ j h. absurd (omega arith))
 least_below s (suc n) = elim (least_below s n) [
   | inl l ↦ inl l
@@ -212,7 +212,7 @@ waiting_is Finished e h r = absurd (omega arith)
 waiting_is Returned e h r = absurd (r refl)
 
 -- the least unfinished task may be taken
-least_take : (reach : ℕ → ℕ → Bool) → IsUpward reach → (s : State) → IsCalm s → s.backed ≡ false
+least_take : (reach : ℕ → ℕ → Bool) → IsUpward reach → (s : PoolState) → IsCalm s → s.backed ≡ false
     → ((i w : ℕ) → slot_at s i ≡ Held w → ⊥) → (l : HasLeast s) → IsTake reach s l.0
 least_take reach up s c b none (k, z, all) = record {
   calm = b;
@@ -258,7 +258,7 @@ good_short reach n es h =
     omega (arith, weigh_run reach (opening n) es h, weigh-replicate n, weigh_le (run (opening n) es).slots, length_run reach (opening n) es, length-replicate n)
 
 -- ---- what is above a held task is finished
-finished_stays : (reach : ℕ → ℕ → Bool) (s : State) (e : PoolEvent) → IsEvent reach s e → (j : ℕ) → slot_at s j ≡ Finished → slot_at (step s e) j ≡ Finished
+finished_stays : (reach : ℕ → ℕ → Bool) (s : PoolState) (e : PoolEvent) → IsEvent reach s e → (j : ℕ) → slot_at s j ≡ Finished → slot_at (pool_step s e) j ≡ Finished
 finished_stays reach s (Take w k) h j f = elim (cases_eq j k) [
   | inl q ↦ let g : Waiting ≡ Finished = sym h.ready.waiting ∙ (ap (slot_at s) (sym q) ∙ f) in cc
   | inr ne ↦ get_or-set_other s.slots k j (Held w) Finished ne ∙ f
@@ -272,7 +272,7 @@ finished_stays reach s (Back w k) h j f = elim (cases_eq j k) [
   | inr ne ↦ get_or-set_other s.slots k j Returned Finished ne ∙ f
 ]
 
-abbrev IsHeldDone : (ℕ → ℕ → Bool) → State → Type 0
+abbrev IsHeldDone : (ℕ → ℕ → Bool) → PoolState → Type 0
 IsHeldDone reach s = (i v : ℕ) → slot_at s i ≡ Held v → (j : ℕ) → reach j i ≡ true → slot_at s j ≡ Finished
 
 held_set : (xs : List Slot) (k i v : ℕ) (y : Slot) → k < length xs → get_or (set xs k y) i Finished ≡ Held v → (y ≡ Held v) ⊎ (get_or xs i Finished ≡ Held v)
@@ -281,7 +281,7 @@ held_set xs k i v y l h = elim (cases_eq i k) [
   | inr ne ↦ inr (sym (get_or-set_other xs k i y Finished ne) ∙ h)
 ]
 
-held_done_step : (reach : ℕ → ℕ → Bool) (s : State) (e : PoolEvent) → IsEvent reach s e → IsHeldDone reach s → IsHeldDone reach (step s e)
+held_done_step : (reach : ℕ → ℕ → Bool) (s : PoolState) (e : PoolEvent) → IsEvent reach s e → IsHeldDone reach s → IsHeldDone reach (pool_step s e)
 held_done_step reach s (Take w k) h a i v g j r = elim (cases_eq i k) [
   | inl q ↦ finished_stays reach s (Take w k) h j (h.ready.done j (subst (λ (n : ℕ). reach j n ≡ true) q r))
   | inr ne ↦ finished_stays reach s (Take w k) h j (a i v (sym (get_or-set_other s.slots k i (Held w) Finished ne) ∙ g) j r)
@@ -303,10 +303,10 @@ held_done_step reach s (Back w k) h a i v g j r =
     apart : Returned ≡ Held v → ⊥
     apart e = cc
 
-held_done_run : (reach : ℕ → ℕ → Bool) (s : State) (es : List PoolEvent) → IsLawful reach s es → IsHeldDone reach s → IsHeldDone reach (run s es)
+held_done_run : (reach : ℕ → ℕ → Bool) (s : PoolState) (es : List PoolEvent) → IsLawful reach s es → IsHeldDone reach s → IsHeldDone reach (run s es)
 unfolding IsLawful
 held_done_run reach s [] h a = a
-held_done_run reach s (e ∷ es) h a = held_done_run reach (step s e) es h.1 (held_done_step reach s e h.0 a)
+held_done_run reach s (e ∷ es) h a = held_done_run reach (pool_step s e) es h.1 (held_done_step reach s e h.0 a)
 
 opening_none : (n i v : ℕ) → get_or (replicate n Waiting) i Finished ≡ Held v → ⊥
 opening_none zero i v h = cc
@@ -324,11 +324,11 @@ holder_of (Held w) = w
 holder_of Finished = 0
 holder_of Returned = 0
 
-held_step : (reach : ℕ → ℕ → Bool) (s : State) (e : PoolEvent) (w i : ℕ) → IsEvent reach s e → slot_at (step s e) i ≡ Held w → (slot_at s i ≡ Held w) ⊎ 1 ≤ take_of w i e
+held_step : (reach : ℕ → ℕ → Bool) (s : PoolState) (e : PoolEvent) (w i : ℕ) → IsEvent reach s e → slot_at (pool_step s e) i ≡ Held w → (slot_at s i ≡ Held w) ⊎ 1 ≤ take_of w i e
 unfolding holder_of
 held_step reach s (Take v k) w i h g = elim (cases_eq i k) [
   | inl q ↦
-      let now : Held v ≡ Held w = sym (get_or-set_same s.slots k (Held v) Finished (waiting_within s.slots k h.ready.waiting)) ∙ (ap (λ (n : ℕ). slot_at (step s (Take v k)) n) (sym q) ∙ g) in
+      let now : Held v ≡ Held w = sym (get_or-set_same s.slots k (Held v) Finished (waiting_within s.slots k h.ready.waiting)) ∙ (ap (λ (n : ℕ). slot_at (pool_step s (Take v k)) n) (sym q) ∙ g) in
       let who : v ≡ w = ap holder_of now in
       inr (rw (eq-eqb v w who, eq-eqb k i (sym q)) (omega arith))
   | inr ne ↦ inl (sym (get_or-set_other s.slots k i (Held v) Finished ne) ∙ g)
@@ -348,10 +348,10 @@ held_step reach s (Back v k) w i h g = elim (held_set s.slots k i w Returned (he
     apart : Returned ≡ Held w → ⊥
     apart e = cc
 
-held_taken : (reach : ℕ → ℕ → Bool) (s : State) (es : List PoolEvent) (w i : ℕ) → IsLawful reach s es → slot_at (run s es) i ≡ Held w → (slot_at s i ≡ Held w) ⊎ 1 ≤ takes w i es
+held_taken : (reach : ℕ → ℕ → Bool) (s : PoolState) (es : List PoolEvent) (w i : ℕ) → IsLawful reach s es → slot_at (run s es) i ≡ Held w → (slot_at s i ≡ Held w) ⊎ 1 ≤ takes w i es
 unfolding IsLawful
 held_taken reach s [] w i h g = inl g
-held_taken reach s (e ∷ es) w i h g = elim (held_taken reach (step s e) es w i h.1 g) [
+held_taken reach s (e ∷ es) w i h g = elim (held_taken reach (pool_step s e) es w i h.1 g) [
   | inl a ↦ elim (held_step reach s e w i h.0 a) [
     | inl b ↦ inl b
     | inr b ↦ inr (omega (arith, b))
@@ -369,7 +369,7 @@ good_own reach n xs ys w i h =
     ]
 
 -- ---- the laws
-pub lawful_good : RunsLaw
+pub lawful_good : GoodRunsLaw
 lawful_good reach up n es h = record {
   once = good_once reach n es h;
   own = λ xs ys w i e. good_own reach n xs ys w i (subst (IsLawful reach (opening n)) e h);
@@ -388,7 +388,7 @@ one_take reach s i j h g = elim (cases_lt i j) [
   ]
 ]
 
-stays : (s : State) (e : PoolEvent) (j : ℕ) → (task_of e ≡ j → ⊥) → slot_at (step s e) j ≡ slot_at s j
+stays : (s : PoolState) (e : PoolEvent) (j : ℕ) → (event_task e ≡ j → ⊥) → slot_at (pool_step s e) j ≡ slot_at s j
 stays s (Take w i) j ne = get_or-set_other s.slots i j (Held w) Finished (λ q. ne (sym q))
 stays s (Finish w i) j ne = get_or-set_other s.slots i j Finished Finished (λ q. ne (sym q))
 stays s (Back w i) j ne = get_or-set_other s.slots i j Returned Finished (λ q. ne (sym q))

@@ -4,7 +4,7 @@ use Rattle.pool_rules.specs.declared.PoolEvent.{PoolEvent}
 use Rattle.pool_rules.specs.declared.PoolEvent.TheVariants.{Take, Finish, Back}
 use Rattle.pool_rules.specs.declared.Slot.{Slot}
 use Rattle.pool_rules.specs.declared.Slot.TheVariants.{Waiting, Held, Finished, Returned}
-use Rattle.pool_rules.specs.Runs.{State, slot_at, opening, step, run, IsTake, IsEvent, IsLawful}
+use Rattle.pool_rules.specs.Runs.{PoolState, slot_at, opening, pool_step, run, IsTake, IsEvent, IsLawful}
 
 -- only tasks of lesser rank reach a task
 abbrev pub IsUpward : (ℕ → ℕ → Bool) → Type 0
@@ -46,8 +46,9 @@ pub record IsGoodRun (reach : ℕ → ℕ → Bool) (n : ℕ) (es : List PoolEve
   -- a task has at most two events
   pub short : length es ≤ n + n
 
-abbrev pub RunsLaw : Type 0
-RunsLaw = (reach : ℕ → ℕ → Bool) → IsUpward reach → (n : ℕ) (es : List PoolEvent) → IsLawful reach (opening n) es → IsGoodRun reach n es
+-- every lawful run over n tasks is good
+abbrev pub GoodRunsLaw : Type 0
+GoodRunsLaw = (reach : ℕ → ℕ → Bool) → IsUpward reach → (n : ℕ) (es : List PoolEvent) → IsLawful reach (opening n) es → IsGoodRun reach n es
 
 -- each task that reaches a held one is finished
 abbrev pub HeldLaw : Type 0
@@ -56,18 +57,19 @@ HeldLaw = (reach : ℕ → ℕ → Bool) (n : ℕ) (es : List PoolEvent) → IsL
 
 -- of two tasks that may be taken, both are the same
 abbrev pub OneTakeLaw : Type 0
-OneTakeLaw = (reach : ℕ → ℕ → Bool) (s : State) (i j : ℕ) → IsTake reach s i → IsTake reach s j → i ≡ j
+OneTakeLaw = (reach : ℕ → ℕ → Bool) (s : PoolState) (i j : ℕ) → IsTake reach s i → IsTake reach s j → i ≡ j
 
-abbrev pub task_of : PoolEvent → ℕ
-task_of (Take w i) = i
-task_of (Finish w i) = i
-task_of (Back w i) = i
+-- the task that an event is of
+abbrev pub event_task : PoolEvent → ℕ
+event_task (Take w i) = i
+event_task (Finish w i) = i
+event_task (Back w i) = i
 
 -- after a lawful event its task is held by the worker, finished or returned, and every other stands as it stood
 pub record EventsLaw : Type 0 where
-  pub take : (reach : ℕ → ℕ → Bool) (s : State) (w i : ℕ) → IsEvent reach s (Take w i) → slot_at (step s (Take w i)) i ≡ Held w
-  pub finish : (reach : ℕ → ℕ → Bool) (s : State) (w i : ℕ) → IsEvent reach s (Finish w i) → slot_at (step s (Finish w i)) i ≡ Finished
-  pub back : (reach : ℕ → ℕ → Bool) (s : State) (w i : ℕ) → IsEvent reach s (Back w i) → slot_at (step s (Back w i)) i ≡ Returned
-  pub rest : (s : State) (e : PoolEvent) (j : ℕ) → (task_of e ≡ j → ⊥) → slot_at (step s e) j ≡ slot_at s j
+  pub take : (reach : ℕ → ℕ → Bool) (s : PoolState) (w i : ℕ) → IsEvent reach s (Take w i) → slot_at (pool_step s (Take w i)) i ≡ Held w
+  pub finish : (reach : ℕ → ℕ → Bool) (s : PoolState) (w i : ℕ) → IsEvent reach s (Finish w i) → slot_at (pool_step s (Finish w i)) i ≡ Finished
+  pub back : (reach : ℕ → ℕ → Bool) (s : PoolState) (w i : ℕ) → IsEvent reach s (Back w i) → slot_at (pool_step s (Back w i)) i ≡ Returned
+  pub rest : (s : PoolState) (e : PoolEvent) (j : ℕ) → (event_task e ≡ j → ⊥) → slot_at (pool_step s e) j ≡ slot_at s j
   -- only a task given back halts the pool
-  pub halt : (s : State) (w i : ℕ) → (step s (Back w i)).backed ≡ true
+  pub halt : (s : PoolState) (w i : ℕ) → (pool_step s (Back w i)).backed ≡ true

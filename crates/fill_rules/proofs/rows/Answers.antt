@@ -1,18 +1,19 @@
 use Rattle.std.proofs.Common.{refl}
-use Rattle.hulls.specs.Cells.{floor_of, ceil_of, cell_of, cells_of, around}
+use Rattle.hulls.specs.Cells.{floor_of, ceil_of, points_round, points_round_all, around}
 use Rattle.hulls.specs.Hulls.{hull_of, hulls_of}
-use Rattle.plane.specs.Plane.{ball_of, up2_of}
-use Rattle.fill_rules.specs.Tasks.{ranked, zone_of}
+use Rattle.plane.specs.Plane.{ball_of}
+use Rattle.grid_num.specs.Roots.{up2_of}
+use Rattle.fill_rules.specs.Tasks.{ranked, task_zone}
 use Rattle.fill_rules.specs.Needs.{pad_hulls}
 use Rattle.fill_rules.specs.Reliefs.{pad_spokes}
 use Rattle.fill_rules.proofs.rows.Goals as goal
 
 pub returns-clause-spokes : goal.returns-clause-spokes
-unfolding pad_spokes pad_hulls hulls_of hull_of around cells_of cell_of floor_of ceil_of ball_of up2_of
+unfolding pad_spokes pad_hulls hulls_of hull_of around points_round_all points_round floor_of ceil_of ball_of up2_of
 returns-clause-spokes c = refl
 
 pub returns-clause-rank : goal.returns-clause-rank
-unfolding ranked zone_of
+unfolding ranked task_zone
 returns-clause-rank c = refl
 
 pub returns-clause-pad : goal.returns-clause-pad

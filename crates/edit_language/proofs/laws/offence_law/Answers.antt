@@ -1,4 +1,5 @@
-use Rattle.edit_language.proofs.Offences.{one_root, one_offence, no_offence}
+use Rattle.edit_language.proofs.OneRoot.{one_root}
+use Rattle.board_language.proofs.OneOffence.{one_offence, no_offence}
 use Rattle.edit_language.proofs.laws.offence_law.Goals as goal
 
 pub returns : goal.returns

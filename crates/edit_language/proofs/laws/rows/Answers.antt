@@ -6,7 +6,7 @@ use Rattle.edit_language.specs.Forms.{forms_of, fault_of}
 use Rattle.edit_language.specs.Scripts.{edit_of, script_from, script_of}
 use Rattle.edit_language.specs.Splices.{values_text, list_text, track_line, via_line, priority_splice, clearance_splice}
 use Rattle.edit_language.specs.Edited.{stamp_refusal}
-use Rattle.board_language.specs.Numbers.{length_fault, length_of}
+use Rattle.board_text.specs.Numbers.{length_fault, length_of}
 use Rattle.edit_language.proofs.laws.rows.Goals as goal
 
 pub returns-clause-scripts : goal.returns-clause-scripts

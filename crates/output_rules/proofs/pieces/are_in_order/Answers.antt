@@ -2,20 +2,20 @@ use Rattle.std.proofs.Common.{◌≡◌, sym, subst, arith, ℕ, ◌+◌, ◌<�
 use Rattle.std.specs.Prelude.{nat_le, IsTrue}
 use Rattle.std.proofs.lemmas.Bool.Decides.{nat_tests}
 use Rattle.std.proofs.lemmas.Bool.{false≢true}
-use Rattle.output_rules.specs.Pieces.{AreInOrder}
+use Rattle.output_rules.specs.Pieces.{ArePiecesInOrder}
 use Rattle.output_rules.specs.Shown.{piece_shown}
 use Rattle.output_rules.specs.declared.pieces.Piece as code
 use Rattle.output_rules.proofs.Replacing.{split_at, first_from, first_to, first_rest, in_order, last_in_order}
 use Rattle.output_rules.proofs.pieces.are_in_order.Goals as goal
 use Rattle.output_rules.proofs.pieces.are_in_order.Goals.{then-piece-at-via-then-piece-at, then-piece-at-via-else-piece-at+then-piece}
 
-left : (end : ℕ) (ps : List code.Piece) (i : ℕ) (p : code.Piece) (at : ℕ) → i < length ps → p ≡ get_or ps i p → AreInOrder at end (map piece_shown (drop i ps))
-    → AreInOrder at end (piece_shown p ∷ map piece_shown (drop (i + 1) ps))
-left end ps i p at within is h = subst (AreInOrder at end) (split_at piece_shown ps i p within is) h
+left : (end : ℕ) (ps : List code.Piece) (i : ℕ) (p : code.Piece) (at : ℕ) → i < length ps → p ≡ get_or ps i p → ArePiecesInOrder at end (map piece_shown (drop i ps))
+    → ArePiecesInOrder at end (piece_shown p ∷ map piece_shown (drop (i + 1) ps))
+left end ps i p at within is h = subst (ArePiecesInOrder at end) (split_at piece_shown ps i p within is) h
 
-back_left : (end : ℕ) (ps : List code.Piece) (i : ℕ) (p : code.Piece) (at : ℕ) → i < length ps → p ≡ get_or ps i p → AreInOrder at end (piece_shown p ∷ map piece_shown (drop (i + 1) ps))
-    → AreInOrder at end (map piece_shown (drop i ps))
-back_left end ps i p at within is h = subst (AreInOrder at end) (sym (split_at piece_shown ps i p within is)) h
+back_left : (end : ℕ) (ps : List code.Piece) (i : ℕ) (p : code.Piece) (at : ℕ) → i < length ps → p ≡ get_or ps i p → ArePiecesInOrder at end (piece_shown p ∷ map piece_shown (drop (i + 1) ps))
+    → ArePiecesInOrder at end (map piece_shown (drop i ps))
+back_left end ps i p at within is h = subst (ArePiecesInOrder at end) (sym (split_at piece_shown ps i p within is)) h
 
 pub returns-then-piece-at : goal.returns-then-piece-at
 returns-then-piece-at c =

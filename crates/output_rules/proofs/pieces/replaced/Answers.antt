@@ -2,16 +2,16 @@ use Rattle.std.proofs.Common.{◌≡◌, ◌∙◌, ap, sym, subst, ℕ, ◌+◌
 use Rattle.std.proofs.Math.Seq.{take-length}
 use Rattle.std.proofs.Math.ListN.{drop_of_length-le}
 use Rattle.std.proofs.lemmas.List.{length-drop}
-use Rattle.output_rules.specs.Pieces.{AreInOrder, replaced}
+use Rattle.output_rules.specs.Pieces.{ArePiecesInOrder, replaced}
 use Rattle.output_rules.specs.Shown.{piece_shown}
 use Rattle.output_rules.specs.declared.pieces.Piece as code
 use Rattle.output_rules.proofs.Replacing.{order, split_at, first_from, first_to, first_rest, next, last_written}
 use Rattle.output_rules.proofs.pieces.replaced.Goals as goal
 
 -- of the pieces that are left, what is known of the first
-left : (text : List ℕ) (ps : List code.Piece) (i : ℕ) (p : code.Piece) (at : ℕ) → i < length ps → p ≡ get_or ps i p → AreInOrder at (length text) (map piece_shown (drop i ps))
-    → AreInOrder at (length text) (piece_shown p ∷ map piece_shown (drop (i + 1) ps))
-left text ps i p at within is h = subst (AreInOrder at (length text)) (split_at piece_shown ps i p within is) h
+left : (text : List ℕ) (ps : List code.Piece) (i : ℕ) (p : code.Piece) (at : ℕ) → i < length ps → p ≡ get_or ps i p → ArePiecesInOrder at (length text) (map piece_shown (drop i ps))
+    → ArePiecesInOrder at (length text) (piece_shown p ∷ map piece_shown (drop (i + 1) ps))
+left text ps i p at within is h = subst (ArePiecesInOrder at (length text)) (split_at piece_shown ps i p within is) h
 
 pub slice_bounds-extend_from_slice-count : goal.slice_bounds-extend_from_slice-count
 slice_bounds-extend_from_slice-count c =
@@ -36,7 +36,7 @@ pieces-preserved c =
     let within : c.pieces.piece-index < length c.args.pieces.now = omega arith in
     let p = piece_shown c.piece-item.result in
     let ps = map piece_shown (drop (c.pieces.piece-index + 1) c.args.pieces.now) in
-    let all : AreInOrder c.pieces.at (length c.args.text.now) (p ∷ ps) =
+    let all : ArePiecesInOrder c.pieces.at (length c.args.text.now) (p ∷ ps) =
     left c.args.text.now c.args.pieces.now c.pieces.piece-index c.piece-item.result c.pieces.at within c.piece-item.is c.pieces.invariant.order in
     record {
       order = first_rest c.pieces.at (length c.args.text.now) p ps all;

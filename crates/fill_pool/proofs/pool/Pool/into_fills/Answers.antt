@@ -1,7 +1,7 @@
 use Rattle.std.proofs.Common.{◌≡◌, sym, ◌∙◌, ap, subst, List, [], ◌++◌, map}
 use Rattle.std.specs.Prelude.{Some}
 use Rattle.std.specs.Arc.{arc_value}
-use Rattle.fills.specs.Fills.{Made}
+use Rattle.fill_rules.specs.Made.{Made}
 use Rattle.fill_pool.specs.Runs.{AllFinished}
 use Rattle.fill_pool.specs.Slots.{filled}
 use Rattle.fill_pool.proofs.Pools.{all_fills}

@@ -1,5 +1,0 @@
-use Rattle.cluster_rules.proofs.Clusters.{touch_law, join_law}
-use Rattle.cluster_rules.proofs.touch_law.Goals as goal
-
-pub returns : goal.returns
-returns c = record { touch = touch_law; join = join_law }

@@ -1,3 +1,0 @@
-pub mod Nodes
-pub mod Clusters
-pub mod Laws
