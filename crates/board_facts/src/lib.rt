@@ -1,0 +1,33 @@
+//! What every accepted board has, in one place: how many things, how thick and wide they are, how far away they lie, how each
+//! pad stands, which rules outlines keep, and where the lists stand in the text.
+//! The crates above use the records of `specs/` and the laws that the functions here state; nothing here runs.
+//! Lengths are nanometres; outlines are in units of 2 nm, and shapes of pads in halves of a nanometre.
+#![tactic(auto)]
+
+ghost use Rattle.board_facts.specs.Laws.{AcceptedLaw, PlacesLaw, StampsLaw, FactsLaw, SoundBoardLaw};
+
+/// The board of a text in which nothing offends is sound, under whatever rules.
+pub fn accepted_law()
+    ensures { AcceptedLaw }
+{}
+
+/// Its tracks, vias and zones stand in its text. A zone's tail is inside the zone, behind the lists that edits replace and the
+/// fills that were written before, which are in order.
+pub fn places_law()
+    ensures { PlacesLaw }
+{}
+
+/// No two of its items have one stamp.
+pub fn stamps_law()
+    ensures { StampsLaw }
+{}
+
+/// All of this in one: the facts of the board of an accepted text.
+pub fn facts_law()
+    ensures { FactsLaw }
+{}
+
+/// What every accepted board has is all that the rules of the fill rest on.
+pub fn sound_law()
+    ensures { SoundBoardLaw }
+{}
