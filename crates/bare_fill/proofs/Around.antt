@@ -5,35 +5,35 @@ use Rattle.std.proofs.lemmas.List.Sums.{sum_by-cons}
 use Rattle.std.proofs.lemmas.List.Sorted.{IsPermutation-append_comm, IsPermutation-append_left, IsPermutation-reverse}
 use Rattle.plane.specs.Plane.{PlanePoint}
 use Rattle.grid_num.specs.declared.Point.{Point}
-use Rattle.covering.specs.Covering.{Edge, IsOn, IsOdd, crossing, crossings, Covers, edges_of}
-use Rattle.covering.specs.Corners.{box_corners}
-use Rattle.covering.specs.Edges.{turned, IsOctilinear, AreOctilinear}
-use Rattle.covering.proofs.Lists.{any_none, any_head, any_tail, any_cases}
-use Rattle.covering.proofs.Laws.{crossing_turned, on_turned}
-use Rattle.covering.proofs.Split.{order_law}
-use Rattle.zone_fill.specs.declared.cell.Rect.{Rect}
-use Rattle.bare_fill.specs.Bare.{GoesRound, AreEnds, IsAround}
+use Rattle.plane.specs.Covering.{Edge, IsOn, IsOdd, crossing, crossings, Covers, edges_of}
+use Rattle.plane.specs.Corners.{box_corners}
+use Rattle.plane.specs.Edges.{turned_back, IsOctilinear, AreOctilinear}
+use Rattle.plane.proofs.Lists.{any_none, any_head, any_tail, any_cases}
+use Rattle.plane.proofs.CoverLaws.{crossing_turned, on_turned}
+use Rattle.plane.proofs.Split.{order_law}
+use Rattle.bare_fill.specs.declared.cell.Rect.{Rect}
+use Rattle.bare_fill.specs.Bare.{GoesRound, AreEnds, AreCornersRound}
 
 -- ---- edges gone the other way
 
-any_turned : (p : PlanePoint) (es : List Edge) → AreOctilinear es → Any (λ e. IsOn e p) es → Any (λ e. IsOn e p) (map turned es)
+any_turned : (p : PlanePoint) (es : List Edge) → AreOctilinear es → Any (λ e. IsOn e p) es → Any (λ e. IsOn e p) (map turned_back es)
 unfolding AreOctilinear
 any_turned p [] o a = absurd (any_none (λ e. IsOn e p) a)
 any_turned p (e ∷ es) o a = elim (any_cases (λ e. IsOn e p) e es a) [
-  | inl h ↦ any_head (λ e. IsOn e p) (turned e) (map turned es) (on_turned p e o.0 h)
-  | inr h ↦ any_tail (λ e. IsOn e p) (turned e) (map turned es) (any_turned p es o.1 h)
+  | inl h ↦ any_head (λ e. IsOn e p) (turned_back e) (map turned_back es) (on_turned p e o.0 h)
+  | inr h ↦ any_tail (λ e. IsOn e p) (turned_back e) (map turned_back es) (any_turned p es o.1 h)
 ]
 
-same_crossings : (p : PlanePoint) (es : List Edge) → crossings (map turned es) p ≡ crossings es p
+same_crossings : (p : PlanePoint) (es : List Edge) → crossings (map turned_back es) p ≡ crossings es p
 same_crossings p [] = refl
 same_crossings p (e ∷ es) =
-    let a = sum_by-cons (crossing p) (turned e) (map turned es) in
+    let a = sum_by-cons (crossing p) (turned_back e) (map turned_back es) in
     let b = sum_by-cons (crossing p) e es in
     let c = crossing_turned p e in
     let d = same_crossings p es in
     omega (arith, a, b, c, d)
 
-covers_turned : (p : PlanePoint) (es : List Edge) → AreOctilinear es → Covers es p → Covers (map turned es) p
+covers_turned : (p : PlanePoint) (es : List Edge) → AreOctilinear es → Covers es p → Covers (map turned_back es) p
 unfolding Covers
 covers_turned p es o (inl a) = inl (any_turned p es o a)
 covers_turned p es o (inr h) = inr (subst IsOdd (sym (same_crossings p es)) h)
@@ -60,9 +60,9 @@ begun_later a b c d p =
 
 -- gone the other way
 back_covers : (a b c d : Point) → AreOctilinear (edges_of (four a b c d)) → (p : PlanePoint) → Covers (edges_of (four a b c d)) p → Covers (edges_of (four d c b a)) p
-unfolding turned
+unfolding turned_back
 back_covers a b c d o p h =
-    (order_law (map turned (edges_of (four a b c d))) (edges_of (four d c b a)) p
+    (order_law (map turned_back (edges_of (four a b c d))) (edges_of (four d c b a)) p
     (IsPermutation-append_left (edge a d ∷ []) (edge b a ∷ edge c b ∷ edge d c ∷ []) (edge d c ∷ edge c b ∷ edge b a ∷ []) (IsPermutation-reverse (edge b a ∷ edge c b ∷ edge d c ∷ [])))).0
     (covers_turned p (edges_of (four a b c d)) o h)
 
@@ -151,6 +151,6 @@ round_box q a b c d (inr (ab, bc, cd, da)) x y =
     (same_four _ _ _ _ _ _ _ _ refl (sym (is_point b a.x c.y (sym ab) bc)) refl (sym (is_point d c.x a.y (sym cd) da)))
     (upright_from q.left q.right q.top q.bottom a.x a.y c.x c.y x y)
 
-pub around_covers : (cs : List Point) (q : Rect) → IsAround cs q → CoverSame cs (box_corners q.left q.right q.top q.bottom)
+pub around_covers : (cs : List Point) (q : Rect) → AreCornersRound cs q → CoverSame cs (box_corners q.left q.right q.top q.bottom)
 around_covers cs q h =
     subst (λ xs. CoverSame xs (box_corners q.left q.right q.top q.bottom)) (sym h.four) (round_box q h.first h.second h.third h.fourth h.round h.across h.down)

@@ -1,3 +1,9 @@
+pub mod Allowed
+pub mod PlainCover
+pub mod OneList
+pub mod Boxes
+pub mod RingCorners
+pub mod PlainFill
 pub mod Around
 pub mod Walks
 pub mod Plain

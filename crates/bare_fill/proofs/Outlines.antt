@@ -4,9 +4,9 @@ use Rattle.std.specs.Prelude.{ℤ, ◌<ℤ◌}
 use Rattle.std.proofs.lemmas.Int.{ints, to_z-of_z}
 use Rattle.plane.specs.Narrow.{IsNearZero}
 use Rattle.grid_num.specs.declared.Point.{Point}
-use Rattle.zone_fill.specs.Rectangle.{IsPlaced}
-use Rattle.zone_fill.specs.declared.cell.Rect.{Rect}
-use Rattle.bare_fill.specs.Bare.{GoesRound, AreEnds, IsAround}
+use Rattle.bare_fill.specs.Rectangle.{IsPlaced}
+use Rattle.bare_fill.specs.declared.cell.Rect.{Rect}
+use Rattle.bare_fill.specs.Bare.{GoesRound, AreEnds, AreCornersRound}
 
 -- ---- numbers within 500 mm, in units
 
@@ -77,12 +77,12 @@ are_four (w ∷ x ∷ []) a b c d l e f g h = absurd (omega (arith, l))
 are_four (w ∷ x ∷ y ∷ []) a b c d l e f g h = absurd (omega (arith, l))
 are_four (w ∷ x ∷ y ∷ z ∷ v ∷ more) a b c d l e f g h = absurd (omega (arith, l))
 
-pub around_of : (cs : List Point) (a b c d : Point) (r : Rect) → cs ≡ four a b c d → GoesRound a b c d → AreEnds a.x c.x r.left r.right → AreEnds a.y c.y r.top r.bottom → IsAround cs r
+pub around_of : (cs : List Point) (a b c d : Point) (r : Rect) → cs ≡ four a b c d → GoesRound a b c d → AreEnds a.x c.x r.left r.right → AreEnds a.y c.y r.top r.bottom → AreCornersRound cs r
 around_of cs a b c d r e round x y = record { first = a; second = b; third = c; fourth = d; four = e; round = round; across = x; down = y }
 
 -- ---- what goes round no rectangle
 
-pub not_four : (cs : List Point) (r : Rect) → (length cs ≡ 4 → ⊥) → IsAround cs r → ⊥
+pub not_four : (cs : List Point) (r : Rect) → (length cs ≡ 4 → ⊥) → AreCornersRound cs r → ⊥
 not_four cs r n h = n (ap length h.four)
 
 abbrev tail : List Point → List Point
@@ -94,7 +94,7 @@ head_or a [] = a
 head_or a (c ∷ cs) = c
 
 -- the corners that a list of four has are those of the rectangle
-same_corners : (cs : List Point) (a b c d : Point) (r : Rect) → cs ≡ four a b c d → (h : IsAround cs r) → GoesRound a b c d × AreEnds a.x c.x r.left r.right × AreEnds a.y c.y r.top r.bottom
+same_corners : (cs : List Point) (a b c d : Point) (r : Rect) → cs ≡ four a b c d → (h : AreCornersRound cs r) → GoesRound a b c d × AreEnds a.x c.x r.left r.right × AreEnds a.y c.y r.top r.bottom
 same_corners cs a b c d r e h =
     let s : four h.first h.second h.third h.fourth ≡ four a b c d = sym h.four ∙ e in
     let p1 : h.first ≡ a = ap (λ xs. head_or a xs) s in
@@ -106,13 +106,13 @@ same_corners cs a b c d r e h =
       subst (λ (x : Point). AreEnds x.y c.y r.top r.bottom) p1 (subst (λ (x : Point). AreEnds h.first.y x.y r.top r.bottom) p3 h.down),
     )
 
-pub not_round : (cs : List Point) (a b c d : Point) (r : Rect) → cs ≡ four a b c d → (GoesRound a b c d → ⊥) → IsAround cs r → ⊥
+pub not_round : (cs : List Point) (a b c d : Point) (r : Rect) → cs ≡ four a b c d → (GoesRound a b c d → ⊥) → AreCornersRound cs r → ⊥
 not_round cs a b c d r e n h = n (same_corners cs a b c d r e h).0
 
 apart : (u v low high : ℤ) → AreEnds u v low high → low <ℤ high → u ≡ v → ⊥
 apart u v low high (inl (e, f)) l g = omega (arith, ints, e, f, l, g)
 apart u v low high (inr (e, f)) l g = omega (arith, ints, e, f, l, g)
 
-pub no_room : (cs : List Point) (a b c d : Point) (r : Rect) → cs ≡ four a b c d → (a.x ≡ c.x) ⊎ (a.y ≡ c.y) → IsPlaced r → IsAround cs r → ⊥
+pub no_room : (cs : List Point) (a b c d : Point) (r : Rect) → cs ≡ four a b c d → (a.x ≡ c.x) ⊎ (a.y ≡ c.y) → IsPlaced r → AreCornersRound cs r → ⊥
 no_room cs a b c d r e (inl x) p h = apart a.x c.x r.left r.right (same_corners cs a b c d r e h).1 p.across x
 no_room cs a b c d r e (inr y) p h = apart a.y c.y r.top r.bottom (same_corners cs a b c d r e h).2 p.down y

@@ -8,18 +8,18 @@ use Rattle.classes.specs.Classes.{Reaches, IsOneOf}
 use Rattle.classes.proofs.Reaching.{reaches_keeps}
 use Rattle.board_language.specs.declared.board.Zone.{Zone}
 use Rattle.board_language.specs.Board.{Board}
-use Rattle.fill_rules.specs.Tasks.{Settings, no_zone, zone_of, task_at, zone_at, layer_at}
+use Rattle.fill_rules.specs.Tasks.{Settings, no_zone, task_zone, task_at, zone_at, layer_at}
 use Rattle.fill_rules.specs.Needs.{track_needs, via_needs, pad_needs, edge_needs, item_needs}
 use Rattle.fill_rules.specs.Reliefs.{thermal_needs, spokes_of}
 use Rattle.fill_rules.specs.Anchors.{IsWithinEdges}
 use Rattle.fill_rules.specs.Fill.{Fills, brush_at, IsAllowed, IsLinked, IsKept, InFill, fills_below, fill_of}
 use Rattle.fill_rules.proofs.Members.{get_or_is}
-use Rattle.zone_fill.specs.Rules as plain
-use Rattle.zone_fill.specs.Rules.{Fits as PlainFits, IsAllowed as IsPlain, IsInFill as IsInPlain}
-use Rattle.zone_fill.specs.Rectangle.{rectangle, centres}
-use Rattle.zone_fill.specs.declared.cell.Rect.{Rect}
-use Rattle.zone_fill.proofs.Allowed.{allowed_inside, inside_allowed}
-use Rattle.bare_fill.specs.Bare.{HasNothingElse, IsAround, IsOneRectangle, HasReadZones, plain_zone}
+use Rattle.bare_fill.specs.Plain as plain
+use Rattle.bare_fill.specs.Plain.{FitsPlain as PlainFits, IsPlainCentre as IsPlain, IsInPlainFill as IsInPlain}
+use Rattle.bare_fill.specs.Rectangle.{rectangle_zone, centres}
+use Rattle.bare_fill.specs.declared.cell.Rect.{Rect}
+use Rattle.bare_fill.proofs.Allowed.{allowed_inside, inside_allowed}
+use Rattle.bare_fill.specs.Bare.{HasNothingElse, AreCornersRound, IsOneRectangle, HasReadZones, plain_zone}
 use Rattle.bare_fill.proofs.Around.{around_covers}
 use Rattle.bare_fill.proofs.Walks.{point, meet_left, meet_up, to_corner, before}
 
@@ -47,14 +47,14 @@ no_spokes b z l h = rw h.pads refl
 
 -- a zone that is read is thick
 thick_at : (b : Board) (i : ℕ) → HasReadZones b → 1000 ≤ (zone_at b i).thickness
-unfolding zone_at zone_of
+unfolding zone_at task_zone
 thick_at b i r = get_or_is (λ (z : Zone). 1000 ≤ z.thickness) b.zones (task_at b i).zone no_zone (omega arith) r.thick
 
-pub wide_at : (b : Board) (i : ℕ) → HasReadZones b → 10 ≤ plain.reach_of (plain_zone (zone_at b i))
+pub wide_at : (b : Board) (i : ℕ) → HasReadZones b → 10 ≤ plain.plain_reach (plain_zone (zone_at b i))
 wide_at b i r = let t = thick_at b i r in omega (arith, t)
 
 -- an outline that goes round a rectangle may be begun anywhere, and gone either way
-pub plain_rectangle : (z : Settings) (q : Rect) → IsAround z.outline q → (x y : ℤ) → IsPlain (plain_zone z) x y ↔ IsPlain (rectangle q z.thickness) x y
+pub plain_rectangle : (z : Settings) (q : Rect) → AreCornersRound z.outline q → (x y : ℤ) → IsPlain (plain_zone z) x y ↔ IsPlain (rectangle_zone q z.thickness) x y
 unfolding PlainFits IsPlain
 plain_rectangle z q around x y =
     let same = around_covers z.outline q around in
@@ -65,7 +65,7 @@ plain_rectangle z q around x y =
 abbrev above : Board → Fills
 above b = fills_below b 0
 
-abbrev zone : Board → plain.Zone
+abbrev zone : Board → plain.PlainZone
 zone b = plain_zone (zone_at b 0)
 
 module _ (b : Board) (o : IsOneRectangle b) where
@@ -88,12 +88,12 @@ module _ (b : Board) (o : IsOneRectangle b) where
   allowed_plain c a p s = a.fits.covered p s
 
   abbrev reach : ℕ
-  reach = plain.reach_of (zone b)
+  reach = plain.plain_reach (zone b)
 
   abbrev all : Bounds
   all = centres o.zone.rect reach
 
-  plain_box : (x y : ℤ) → IsPlain (zone b) x y ↔ IsPlain (rectangle o.zone.rect (zone_at b 0).thickness) x y
+  plain_box : (x y : ℤ) → IsPlain (zone b) x y ↔ IsPlain (rectangle_zone o.zone.rect (zone_at b 0).thickness) x y
   plain_box = plain_rectangle (zone_at b 0) o.zone.rect o.zone.around
 
   wide : o.zone.rect.left ≤ℤ o.zone.rect.right

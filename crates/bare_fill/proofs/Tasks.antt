@@ -7,16 +7,16 @@ use Rattle.std.proofs.lemmas.Bool.Decides.{nat_tests}
 use Rattle.classes.specs.Classes.{IsOneOf}
 use Rattle.board_language.specs.declared.board.Zone.{Zone}
 use Rattle.board_language.specs.Board.{Board}
-use Rattle.fill_rules.specs.Tasks.{Task, settings_of, no_zone, no_task, has_layer, layers_below, tasks_from, zone_of, put, put_all, ranked, task_at, zone_at}
+use Rattle.fill_rules.specs.Tasks.{Task, settings_of, no_zone, no_task, has_layer, layers_below, tasks_from, task_zone, put_by_priority, put_all, ranked, task_at, zone_at}
 use Rattle.bare_fill.specs.Bare.{HasNothingElse, HasReadZones, IsRectangle, IsOneRectangle, IsBuilt}
 
 -- ---- how many tasks
 
-put_length : (b : Board) (t : Task) (us : List Task) → length (put b t us) ≡ suc (length us)
+put_length : (b : Board) (t : Task) (us : List Task) → length (put_by_priority b t us) ≡ suc (length us)
 put_length b t [] = refl
-put_length b t (u ∷ us) = pick (nat_le (zone_of b u).priority (zone_of b t).priority) (put_length b t us)
+put_length b t (u ∷ us) = pick (nat_le (task_zone b u).priority (task_zone b t).priority) (put_length b t us)
   where
-    pick : (c : Bool) → length (put b t us) ≡ suc (length us) → length (cond c (t ∷ u ∷ us) (u ∷ put b t us)) ≡ suc (suc (length us))
+    pick : (c : Bool) → length (put_by_priority b t us) ≡ suc (length us) → length (cond c (t ∷ u ∷ us) (u ∷ put_by_priority b t us)) ≡ suc (suc (length us))
     pick true e = refl
     pick false e = ap suc e
 
@@ -86,7 +86,7 @@ one_length b z e =
     omega (arith, ranked_length b, a, tasks_length (length b.layers) 0 z [])
 
 pub zone_first : (b : Board) (z : Zone) (l : ℕ) → b.zones ≡ z ∷ [] → layers_below z.layers (length b.layers) ≡ l ∷ [] → zone_at b 0 ≡ settings_of z
-unfolding zone_at zone_of task_at
+unfolding zone_at task_zone task_at
 zone_first b z l e f =
     ap (λ ts. settings_of (get_or b.zones (get_or ts 0 (no_task b)).zone no_zone)) (one_ranked b z l e f)
     ∙ ap (λ zs. settings_of (get_or zs 0 no_zone)) e

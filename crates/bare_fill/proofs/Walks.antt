@@ -3,7 +3,7 @@ use Rattle.std.proofs.Common.{◌≡◌, refl, sym, subst, ℕ, zero, suc, ◌�
 use Rattle.std.specs.Prelude.{ℤ, pos, negsuc, ◌-ℤ◌, ◌≤ℤ◌}
 use Rattle.std.proofs.lemmas.Int.{ints}
 use Rattle.plane.specs.Plane.{Bounds, Within, IsMeeting, ball_of, moved, grid_point}
-use Rattle.plane.proofs.Near.{le_up2}
+use Rattle.grid_num.proofs.Roots.{le_up2}
 use Rattle.grid_num.specs.declared.Point.{Point}
 use Rattle.classes.specs.Classes.{Reaches}
 use Rattle.classes.proofs.Reaching.{reaches_self, reaches_step, reaches_then}

@@ -6,16 +6,18 @@ use Rattle.classes.specs.Classes.{IsOneOf}
 use Rattle.board_language.specs.declared.board.Zone.{Zone}
 use Rattle.board_language.specs.Board.{Board}
 use Rattle.fill_rules.specs.Tasks.{Settings, has_layer, ranked, zone_at}
-use Rattle.zone_fill.specs.Rules as plain
-use Rattle.zone_fill.specs.Rings.{AreRings}
-use Rattle.zone_fill.specs.Rectangle.{IsPlaced}
-use Rattle.zone_fill.specs.declared.cell.Rect.{Rect}
+use Rattle.bare_fill.specs.Plain as plain
+use Rattle.bare_fill.specs.PlainRings.{ArePlainRings}
+use Rattle.bare_fill.specs.Rectangle.{IsPlaced}
+use Rattle.bare_fill.specs.declared.cell.Rect.{Rect}
 
 -- ---- rectangles
 
+-- the way from corner to corner is level
 abbrev pub IsLevel : Point → Point → Type 0
 IsLevel a b = a.y ≡ b.y
 
+-- the way from corner to corner is upright
 abbrev pub IsUpright : Point → Point → Type 0
 IsUpright a b = a.x ≡ b.x
 
@@ -33,7 +35,7 @@ AreEnds u v low high = ((u ≡ low) × (v ≡ high)) ⊎ ((u ≡ high) × (v ≡
 --       1 __ 2        4 __ 1        1 __ 4
 --        |  |          |  |          |  |        and five more
 --       4|__|3        3|__|2        2|__|3
-pub record IsAround (corners : List Point) (r : Rect) : Type 0 where
+pub record AreCornersRound (corners : List Point) (r : Rect) : Type 0 where
   pub first : Point
   pub second : Point
   pub third : Point
@@ -59,7 +61,7 @@ pub record IsRectangle (z : Settings) : Type 0 where
   pub keeps : z.keep_islands ≡ true
   pub rect : Rect
   pub placed : IsPlaced rect
-  pub around : IsAround z.outline rect
+  pub around : AreCornersRound z.outline rect
 
 -- the board has one task, the fill of such a zone, and nothing else
 pub record IsOneRectangle (b : Board) : Type 0 where
@@ -74,13 +76,13 @@ IsBuilt b = (ranked b ≡ []) ⊎ IsOneRectangle b
 -- ---- rings
 
 -- what is filled of a zone where no other copper counts
-abbrev pub plain_zone : Settings → plain.Zone
+abbrev pub plain_zone : Settings → plain.PlainZone
 plain_zone z = record { outline = z.outline; thickness = z.thickness }
 
 -- the rings of all tasks of a board, in rank order
 pub record AreRingsOfBoard (b : Board) (all : List (List (List Point))) : Type 0 where
   pub count : length all ≡ length (ranked b)
-  pub each : (i : ℕ) → i < length all → AreRings (plain_zone (zone_at b i)) (get_or all i [])
+  pub each : (i : ℕ) → i < length all → ArePlainRings (plain_zone (zone_at b i)) (get_or all i [])
 
 -- ---- what every accepted board has
 

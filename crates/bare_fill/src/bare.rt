@@ -1,19 +1,16 @@
 // Whether a board is one that is filled today, and the rings of its fill.
-ghost use Rattle.std.specs.Prelude.{◌≡◌, ◌≤◌, ◌<◌, ◌+◌, ◌↔◌, ℕ, cond, map, length, [], ◌∷◌, IfOk, IfSome, IsNone, IsTrue};
-ghost use Rattle.std.specs.List.{All};
+ghost use Rattle.std.specs.Prelude.{◌≡◌, ◌≤◌, ◌<◌, ◌+◌, ◌↔◌, ℕ, cond, length, [], ◌∷◌, IfOk, IfSome, IsNone, IsTrue};
 ghost use Rattle.fill_rules.specs.Tasks.{has_layer, layers_below, settings_of};
-ghost use Rattle.zone_fill.specs.Rectangle as zone_rings;
-ghost use Rattle.output_rules.specs.Shown.{corners_shown, IsRingInRange};
 ghost use Rattle.bare_fill.specs.Bare.{HasNothingElse, HasReadZones, IsRectangle};
 ghost use Rattle.bare_fill.specs.Answers.{IsAnswer, AreRingsOfZone};
 
 use crate::rectangle::rectangle_of;
+use crate::ring::fill_rectangle;
 use board_language::Zone;
 use board_model::Board;
 use grid_num::Memory;
-use output_rules::Ring;
+use rings::Ring;
 use std::alloc::Global;
-use zone_fill::fill_rectangle;
 
 /// What is filled of a board.
 #[derive(Drop)]
@@ -115,7 +112,8 @@ fn only_layer(layers: u32, count: u8) -> Option<u8>
 fn zone_rings(alloc: Global, zone: &Zone) -> Result<Option<Vec<Ring>>, Memory>
     requires thick { (1000 ≤ zone.now.thickness) × (zone.now.thickness ≤ 100000000) }
     ensures none { IfOk result (λ o. IsNone o → IsRectangle (settings_of zone.now) → ⊥) }
-    ensures some { IfOk result (λ o. IfSome o (λ rings. AreRingsOfZone (settings_of zone.now) rings.items)) }
+    ensures some { IfOk result
+        (λ o. IfSome o (λ rings. AreRingsOfZone (settings_of zone.now) rings.items)) }
 {
     let Some(outline) = rectangle_of(&zone.outline) else {
         return Ok(None);
@@ -124,24 +122,5 @@ fn zone_rings(alloc: Global, zone: &Zone) -> Result<Option<Vec<Ring>>, Memory>
         return Ok(None);
     }
     let rings = fill_rectangle(alloc, &outline, zone.thickness)?;
-    Ok(Some(to_write(alloc, rings)?))
-}
-
-/// The same rings, as they are written.
-///
-/// # Errors
-///
-/// Want of memory.
-fn to_write(alloc: Global, rings: Vec<zone_fill::Ring>) -> Result<Vec<Ring>, Memory>
-    requires { All zone_rings.IsInRange rings.items }
-    ensures same { IfOk result (λ v. map corners_shown v.items ≡ map zone_rings.corners_shown rings.items) }
-    ensures range { IfOk result (λ v. All IsRingInRange v.items) }
-{
-    let mut all = Vec::new(alloc);
-    'each: for ring in rings {
-        all.push(Ring {
-            corners: ring.corners,
-        })?;
-    }
-    Ok(all)
+    Ok(Some(rings))
 }

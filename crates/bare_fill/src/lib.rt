@@ -3,14 +3,27 @@
 //! the laws. Outlines are in units of 2 nm, rings and thicknesses in nanometres.
 #![tactic(auto)]
 
-ghost use Rattle.bare_fill.specs.Laws.{CoverLaw, OneRingsLaw, AcceptedLaw};
+ghost use Rattle.bare_fill.specs.Laws.{CoverLaw, OneBoardRingsLaw, ReadZonesLaw};
+ghost use Rattle.bare_fill.specs.PlainRings.{PlainCoverLaw, OneListLaw};
 
 mod bare;
+mod cell;
 mod rectangle;
-#[cfg(test)]
-mod tests;
+mod ring;
 
 pub use bare::{Bare, bare_rings};
+pub use cell::Rect;
+pub use ring::fill_rectangle;
+
+/// Of a zone where no other copper counts: the rings of its fill cover exactly the fill's points, at every scale.
+pub fn plain_cover_law()
+    ensures { PlainCoverLaw }
+{}
+
+/// Such a zone has one list of rings.
+pub fn one_list_law()
+    ensures { OneListLaw }
+{}
 
 /// The rings of each task of a board that is built cover exactly the points of its fill, at every scale.
 pub fn cover_law()
@@ -19,10 +32,10 @@ pub fn cover_law()
 
 /// A board has at most one list of rings.
 pub fn one_rings_law()
-    ensures { OneRingsLaw }
+    ensures { OneBoardRingsLaw }
 {}
 
 /// Each zone of an accepted board is on a layer, and its least thickness is 0.001 mm to 100 mm; the layers are at most 32.
 pub fn accepted_law()
-    ensures { AcceptedLaw }
+    ensures { ReadZonesLaw }
 {}

@@ -1,19 +1,19 @@
 // Outlines that are rectangles.
 ghost use Rattle.std.specs.Prelude.{◌≡◌, ◌⊎◌, ◌↔◌, ◌<ℤ◌, IfSome, IsNone, IsTrue};
-ghost use Rattle.outline_slab.specs.Rules.{IsWithin};
-ghost use Rattle.zone_fill.specs.Rectangle.{IsPlaced};
-ghost use Rattle.zone_fill.specs.declared.cell.Rect as rects;
-ghost use Rattle.bare_fill.specs.Bare.{IsLevel, IsUpright, GoesRound, AreEnds, IsAround};
+ghost use Rattle.outline_slab.specs.Rules.{IsPointWithin};
+ghost use Rattle.bare_fill.specs.Rectangle.{IsPlaced};
+ghost use Rattle.bare_fill.specs.declared.cell.Rect as rects;
+ghost use Rattle.bare_fill.specs.Bare.{IsLevel, IsUpright, GoesRound, AreEnds, AreCornersRound};
 
+use crate::cell::Rect;
 use grid_num::Point;
 use outline_slab::Outline;
-use zone_fill::Rect;
 
 /// The rectangle that an outline goes round, begun at any of its corners and gone either way, if it is one with level and
 /// upright edges.
 pub fn rectangle_of(outline: &Outline) -> Option<Rect>
-    ensures none { IsNone result → (r : rects.Rect) → IsPlaced r → IsAround outline.now r → ⊥ }
-    ensures some { IfSome result (λ r. IsPlaced r × IsAround outline.now r) }
+    ensures none { IsNone result → (r : rects.Rect) → IsPlaced r → AreCornersRound outline.now r → ⊥ }
+    ensures some { IfSome result (λ r. IsPlaced r × AreCornersRound outline.now r) }
 {
     let corners = outline.vertices();
     if corners.len() != 4 {
@@ -58,8 +58,8 @@ fn ends(u: i64, v: i64) -> Option<(i64, i64)>
 
 /// The rectangle of two opposite corners, if they differ in both coordinates.
 fn between(a: Point, c: Point) -> Option<Rect>
-    requires first { IsWithin 250000000 a }
-    requires second { IsWithin 250000000 c }
+    requires first { IsPointWithin 250000000 a }
+    requires second { IsPointWithin 250000000 c }
     ensures none { IsNone result → (a.x ≡ c.x) ⊎ (a.y ≡ c.y) }
     ensures placed { IfSome result IsPlaced }
     ensures across { IfSome result (λ r. AreEnds a.x c.x r.left r.right) }

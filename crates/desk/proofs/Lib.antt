@@ -7,3 +7,4 @@ pub mod Listed
 pub mod Tables
 pub mod Reserve
 pub mod Rooms
+pub mod Loops

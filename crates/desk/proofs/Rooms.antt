@@ -3,10 +3,10 @@ use Rattle.std.proofs.Common.{◌≡◌, ◌≢◌, ℕ, ◌+◌, ◌≤◌, tru
 use Rattle.std.specs.FinMap.{get}
 use Rattle.std.specs.Option.{option_map}
 use Rattle.desk.specs.Seen.{Seen, Changes, with_file, appended, content, with_said, with_complained}
-use Rattle.desk.specs.Room.{cost_of, HasRoom, Spends}
+use Rattle.desk.specs.Room.{cost_of, HasRoomTold, Spends}
 use Rattle.desk.proofs.Files.{get-insert_same, get-insert_other}
 
-pub has_less : (room : Option ℕ) (m n : ℕ) → m ≤ n → HasRoom room n → HasRoom room m
+pub has_less : (room : Option ℕ) (m n : ℕ) → m ≤ n → HasRoomTold room n → HasRoomTold room m
 has_less None m n le h = tt
 has_less (Some r) m n le h = omega arith
 
@@ -32,7 +32,7 @@ spends_both (Some x) None c m n h k = absurd h
 spends_both (Some x) (Some y) None m n h k = k
 
 -- what is left for the calls after
-pub room_left : (before now : Option ℕ) (m n : ℕ) → HasRoom before (m + n) → Spends before now m → HasRoom now n
+pub room_left : (before now : Option ℕ) (m n : ℕ) → HasRoomTold before (m + n) → Spends before now m → HasRoomTold now n
 room_left None None m n h s = tt
 room_left (Some r) (Some l) m n h s = omega arith
 room_left None (Some l) m n h s = absurd s

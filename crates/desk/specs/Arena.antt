@@ -13,6 +13,7 @@ pub record Reserved : Type 0 where
   pub files : FinMap (slice_cmp nat_cmp) (List ℕ)
   pub room : ℕ
 
+-- it is stored as the pair of its parts
 abbrev pub reserved_code : Coded Reserved
 reserved_code =
     code_by (FinMap (slice_cmp nat_cmp) (List ℕ) × ℕ) (coded× (code (coded_list coded_ℕ) (coded_list coded_ℕ)) coded_ℕ) (λ r. (r.files, r.room)) (λ p. record { files = p.0; room = p.1 }) (λ _. refl)
@@ -22,6 +23,7 @@ abbrev pub entries_of : List Lengths → List ℕ → List (List ℕ × List ℕ
 entries_of [] bytes = []
 entries_of (l ∷ ls) bytes = (take l.name bytes, take l.contents (drop l.name bytes)) ∷ entries_of ls (drop (l.name + l.contents) bytes)
 
+-- the contents by name
 abbrev pub stored : List Lengths → List ℕ → FinMap (slice_cmp nat_cmp) (List ℕ)
 stored ls bytes = from_entries (entries_of ls bytes)
 
@@ -39,8 +41,8 @@ abbrev pub IsTable : List Lengths → List ℕ → Type 0
 IsTable ls bytes = total_of ls ≡ length bytes
 
 -- a place of the table and its offset
-abbrev pub IsPlace : List Lengths → Spot → Type 0
-IsPlace ls spot = (spot.index < length ls) × (spot.at ≡ offset_of ls spot.index)
+abbrev pub IsSpotIn : List Lengths → Spot → Type 0
+IsSpotIn ls spot = (spot.index < length ls) × (spot.at ≡ offset_of ls spot.index)
 
 -- 1 where the empty name is there: it is the one name that takes no bytes
 abbrev pub nameless : FinMap (slice_cmp nat_cmp) (List ℕ) → ℕ

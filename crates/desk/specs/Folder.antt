@@ -6,6 +6,7 @@ use Rattle.std.specs.Cmp.Lexicographic.{slice_cmp}
 use Rattle.std.specs.FinMap.{FinMap, get, from_entries}
 use Rattle.desk.specs.declared.folder.File.{File}
 
+-- a file as its name and its bytes
 abbrev pub entry : File → List ℕ × List ℕ
 entry f = (string_bytes f.name, f.bytes.items)
 
@@ -25,6 +26,7 @@ entry_at es i = slice_index_or es i ([], [])
 abbrev pub IsFirst : List ℕ → List (List ℕ × List ℕ) → ℕ → Type 0
 IsFirst name es i = (i < length es) × ((entry_at es i).0 ≡ name) × ((k : ℕ) → k < i → (entry_at es k).0 ≢ name)
 
+-- no entry has the name
 abbrev pub IsNowhere : List ℕ → List (List ℕ × List ℕ) → Type 0
 IsNowhere name es = (k : ℕ) → k < length es → (entry_at es k).0 ≢ name
 

@@ -5,3 +5,4 @@ pub mod Folder
 pub mod Memory
 pub mod Arena
 pub mod Never
+pub mod Whole

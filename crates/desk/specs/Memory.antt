@@ -9,6 +9,7 @@ use Rattle.std.specs.Coded.{Coded, code_by, coded×, coded_ℕ, coded_list}
 use Rattle.desk.specs.Seen.{Seen}
 use Rattle.desk.specs.declared.Counts.{Counts}
 
+-- a desk in memory, with the calls that it lets fail
 pub record MemoryState : Type 0 where
   -- what it tells
   pub seen : Seen
@@ -47,15 +48,19 @@ raised n = min (n + 1) (2 ^ 64 - 1)
 abbrev pub is_listed : MemoryState → Bool
 is_listed s = list_any (λ n. n == raised s.calls) s.failing
 
+-- a fault of reading more
 abbrev pub reading_raised : Counts → Counts
 reading_raised c = record { reading = raised c.reading; writing = c.writing; saying = c.saying; complaining = c.complaining }
 
+-- a fault of writing more
 abbrev pub writing_raised : Counts → Counts
 writing_raised c = record { reading = c.reading; writing = raised c.writing; saying = c.saying; complaining = c.complaining }
 
+-- a fault of saying more
 abbrev pub saying_raised : Counts → Counts
 saying_raised c = record { reading = c.reading; writing = c.writing; saying = raised c.saying; complaining = c.complaining }
 
+-- a fault of complaining more
 abbrev pub complaining_raised : Counts → Counts
 complaining_raised c = record { reading = c.reading; writing = c.writing; saying = c.saying; complaining = raised c.complaining }
 

@@ -6,6 +6,7 @@ use Rattle.std.specs.FinMap.{FinMap, code}
 use Rattle.std.specs.Coded.{Coded, code_by, coded×, coded_ℕ, coded_list}
 use Rattle.desk.specs.Seen.{Seen}
 
+-- a desk whose calls never fail, with the room that it was given
 pub record NeverState : Type 0 where
   -- what it tells
   pub seen : Seen

@@ -15,9 +15,9 @@ cost_of None name = 0
 cost_of (Some s) name = cost_in s.files name
 
 -- Where a room is told, n bytes fit. Where none is told, nothing is asked.
-abbrev pub HasRoom : Option ℕ → ℕ → Type 0
-HasRoom None n = Unit {0}
-HasRoom (Some room) n = n ≤ room
+abbrev pub HasRoomTold : Option ℕ → ℕ → Type 0
+HasRoomTold None n = Unit {0}
+HasRoomTold (Some room) n = n ≤ room
 
 -- A told room falls by at most n bytes. Whether a room is told never changes.
 abbrev pub Spends : (before now : Option ℕ) → ℕ → Type 0

@@ -5,6 +5,7 @@ use Rattle.std.specs.Ordering.{nat_cmp}
 use Rattle.std.specs.Cmp.Lexicographic.{slice_cmp}
 use Rattle.std.specs.FinMap.{FinMap, empty, get, insert}
 
+-- contents by name, and what was said and complained since the desk was made
 pub record Seen : Type 0 where
   pub files : FinMap (slice_cmp nat_cmp) (List ℕ)
   pub said : List ℕ
@@ -26,9 +27,11 @@ with_file name bytes s = record { files = insert s.files name bytes; said = s.sa
 abbrev pub appended : List ℕ → List ℕ → Seen → Seen
 appended name bytes s = with_file name (content name s ++ bytes) s
 
+-- these bytes are said behind those before, and all else is as before
 abbrev pub with_said : List ℕ → Seen → Seen
 with_said bytes s = record { files = s.files; said = s.said ++ bytes; complained = s.complained }
 
+-- these bytes are complained behind those before, and all else is as before
 abbrev pub with_complained : List ℕ → Seen → Seen
 with_complained bytes s = record { files = s.files; said = s.said; complained = s.complained ++ bytes }
 
@@ -46,5 +49,6 @@ pub record Gives (bytes : List ℕ) (from : ℕ) (piece : List ℕ) (n : ℕ) : 
   pub fits : n ≤ length (drop from bytes)
   pub more : n ≡ 0 → length bytes ≤ from
 
+-- a read gives bytes of the name's contents, where these are told
 abbrev pub ReadsFrom : Option Seen → List ℕ → ℕ → List ℕ → ℕ → Type 0
 ReadsFrom told name from piece n = IfSome told (λ s. Gives (content name s) from piece n)

@@ -3,7 +3,7 @@ ghost use Rattle.std.specs.Prelude.{◌≡◌, ◌≢◌, true, false, ◌<◌, 
 ghost use Rattle.std.specs.FinMap.{empty, get, insert};
 ghost use Rattle.desk.specs.Folder.{bytes_of, entry_at, IsFirst, IsNowhere, IsReplaced, IsExtended};
 ghost use Rattle.desk.specs.Room.{cost_in};
-ghost use Rattle.desk.specs.Arena.{entries_of, offset_of, IsTable, IsPlace};
+ghost use Rattle.desk.specs.Arena.{entries_of, offset_of, IsTable, IsSpotIn};
 
 use crate::pieces::{push_all, splice};
 use grid_num::Memory;
@@ -60,7 +60,7 @@ fn is_name(bytes: &[u8], name: &str) -> bool
 /// The first place of a name.
 fn place_of(table: &[Lengths], bytes: &[u8], name: &str) -> Option<Spot>
     requires { IsTable table.now bytes.now }
-    ensures place { IfSome result (IsPlace table.now) }
+    ensures place { IfSome result (IsSpotIn table.now) }
     ensures found { IfSome result (λ s. IsFirst name.now (entries_of table.now bytes.now) s.index) }
     ensures none { IfNone result (IsNowhere name.now (entries_of table.now bytes.now)) }
 {
@@ -80,7 +80,7 @@ fn place_of(table: &[Lengths], bytes: &[u8], name: &str) -> Option<Spot>
 /// The contents at a place.
 fn contents_at<'a>(table: &[Lengths], bytes: &'a [u8], spot: Spot) -> &'a [u8]
     requires table { IsTable table.now bytes.now }
-    requires place { IsPlace table.now spot }
+    requires place { IsSpotIn table.now spot }
     ensures { result.now ≡ (entry_at (entries_of table.now bytes.now) spot.index).1 }
 {
     let own = table[spot.index];
@@ -91,7 +91,7 @@ fn contents_at<'a>(table: &[Lengths], bytes: &'a [u8], spot: Spot) -> &'a [u8]
 /// Adds bytes to the contents at a place, within the capacity.
 fn grow(table: &mut Vec<Lengths>, bytes: &mut Vec<u8>, spot: Spot, piece: &[u8])
     requires table { IsTable table.old.items bytes.old.items }
-    requires place { IsPlace table.old.items spot }
+    requires place { IsSpotIn table.old.items spot }
     requires fits { vec_len bytes.old + length piece.now ≤ vec_capacity bytes.old }
     ensures table { IsTable table.new.items bytes.new.items }
     ensures entries { IsExtended (entries_of table.old.items bytes.old.items) spot.index piece.now
@@ -113,7 +113,7 @@ fn grow(table: &mut Vec<Lengths>, bytes: &mut Vec<u8>, spot: Spot, piece: &[u8])
 /// Puts bytes in place of the contents at a place, within the capacity.
 fn refill(table: &mut Vec<Lengths>, bytes: &mut Vec<u8>, spot: Spot, fresh: &[u8])
     requires table { IsTable table.old.items bytes.old.items }
-    requires place { IsPlace table.old.items spot }
+    requires place { IsSpotIn table.old.items spot }
     requires fits { vec_len bytes.old + length fresh.now ≤ vec_capacity bytes.old }
     ensures table { IsTable table.new.items bytes.new.items }
     ensures entries { IsReplaced (entries_of table.old.items bytes.old.items) spot.index fresh.now
@@ -135,7 +135,8 @@ fn refill(table: &mut Vec<Lengths>, bytes: &mut Vec<u8>, spot: Spot, fresh: &[u8
 fn add(table: &mut Vec<Lengths>, bytes: &mut Vec<u8>, name: &str, contents: &[u8])
     requires table { IsTable table.old.items bytes.old.items }
     requires names_fit { vec_len table.old < vec_capacity table.old }
-    requires fits { vec_len bytes.old + (length name.now + length contents.now) ≤ vec_capacity bytes.old }
+    requires fits { vec_len bytes.old + (length name.now + length contents.now)
+        ≤ vec_capacity bytes.old }
     ensures table { IsTable table.new.items bytes.new.items }
     ensures entries { entries_of table.new.items bytes.new.items
         ≡ entries_of table.old.items bytes.old.items ++ (name.now, contents.now) ∷ [] }
@@ -196,7 +197,8 @@ impl Arena {
         requires { cost_in self.old.files name.now + length piece.now ≤ self.old.room }
         ensures { self.new
             ≡ record {
-              files = insert self.old.files name.now (bytes_of self.old.files name.now ++ piece.now);
+              files = insert self.old.files name.now
+                  (bytes_of self.old.files name.now ++ piece.now);
               room = self.old.room - (cost_in self.old.files name.now + length piece.now);
             } }
     {
@@ -216,7 +218,10 @@ impl Arena {
     pub fn clear(&mut self, name: &str)
         requires { cost_in self.old.files name.now ≤ self.old.room }
         ensures { self.new
-            ≡ record { files = insert self.old.files name.now []; room = self.old.room - cost_in self.old.files name.now } }
+            ≡ record {
+              files = insert self.old.files name.now [];
+              room = self.old.room - cost_in self.old.files name.now;
+            } }
     {
         match place_of(&self.table, &self.bytes, name) {
             Some(spot) => refill(&mut self.table, &mut self.bytes, spot, &[]),

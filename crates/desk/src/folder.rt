@@ -59,7 +59,8 @@ fn place_of(files: &[File], name: &str) -> Option<usize>
 }
 
 fn extend(file: &mut File, bytes: &[u8]) -> Result<(), AllocError>
-    ensures ok { OnOk result (entry file.new ≡ ((entry file.old).0, (entry file.old).1 ++ bytes.now)) }
+    ensures ok { OnOk result
+        (entry file.new ≡ ((entry file.old).0, (entry file.old).1 ++ bytes.now)) }
     ensures err { OnErr result (entry file.new ≡ entry file.old) }
 {
     file.bytes.extend_from_slice(bytes)
@@ -68,7 +69,8 @@ fn extend(file: &mut File, bytes: &[u8]) -> Result<(), AllocError>
 /// Adds bytes to the file at a place.
 fn extend_file(files: &mut Vec<File>, at: usize, bytes: &[u8]) -> Result<(), AllocError>
     requires { at < length files.old.items }
-    ensures ok { OnOk result (IsExtended (map entry files.old.items) at bytes.now (map entry files.new.items)) }
+    ensures ok { OnOk result
+        (IsExtended (map entry files.old.items) at bytes.now (map entry files.new.items)) }
     ensures err { OnErr result (map entry files.new.items ≡ map entry files.old.items) }
 {
     extend(&mut files[at], bytes)
@@ -95,7 +97,8 @@ fn add_file(
     name: &str,
     bytes: Vec<u8>,
 ) -> Result<(), AllocError>
-    ensures ok { OnOk result (map entry files.new.items ≡ map entry files.old.items ++ (name.now, bytes.items) ∷ []) }
+    ensures ok { OnOk result
+        (map entry files.new.items ≡ map entry files.old.items ++ (name.now, bytes.items) ∷ []) }
     ensures err { OnErr result (map entry files.new.items ≡ map entry files.old.items) }
 {
     let name = String::from_str(alloc, name)?;
@@ -126,7 +129,8 @@ impl Folder {
 
     /// Adds bytes to the contents of a name, and makes it where it isn't there.
     pub fn append(&mut self, name: &str, bytes: &[u8]) -> Result<(), AllocError>
-        ensures ok { OnOk result (self.new ≡ insert self.old name.now (bytes_of self.old name.now ++ bytes.now)) }
+        ensures ok { OnOk result
+            (self.new ≡ insert self.old name.now (bytes_of self.old name.now ++ bytes.now)) }
         ensures err { OnErr result (self.new ≡ self.old) }
     {
         match place_of(&self.files, name) {

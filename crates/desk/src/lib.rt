@@ -1,13 +1,14 @@
 //! The outside: files by name, standard output and standard error, with counts of their faults.
 //! The layer above calls a `Desk` and may use what it tells, its counts and its room; `MemoryDesk`, `NeverFails` and
-//! `RealDesk` are the three kinds. All lengths and places are in bytes.
+//! `RealDesk` are the three kinds; `read_all`, `write_all` and `complain_all` are for whole files and lines. All lengths and
+//! places are in bytes.
 #![tactic(auto)]
 
 ghost use Rattle.std.specs.Prelude.{◌≡◌, ◌+◌, ◌<◌, ◌≤◌, ℕ, List, [], length, take, Option, Some, IsSome, IfOk, OnOk, OnErr};
 ghost use Rattle.desk.specs.declared.Counts.{Counts};
 ghost use Rattle.desk.specs.Seen.{Seen, Changes, ReadsFrom, with_file, appended, with_said, with_complained};
 ghost use Rattle.desk.specs.Faults.{HasCause, TakesSome, OnlyReading, OnlyWriting, OnlySaying, OnlyComplaining};
-ghost use Rattle.desk.specs.Room.{cost_of, HasRoom, Spends};
+ghost use Rattle.desk.specs.Room.{cost_of, HasRoomTold, Spends};
 
 mod arena;
 mod folder;
@@ -15,12 +16,12 @@ mod memory_desk;
 mod never_fails;
 mod pieces;
 mod real;
-#[cfg(test)]
-mod tests;
+mod whole_files;
 
 pub use memory_desk::MemoryDesk;
 pub use never_fails::NeverFails;
 pub use real::RealDesk;
+pub use whole_files::{MOST, ReadStop, complain_all, read_all, write_all};
 
 /// A call of a desk failed.
 #[derive(Clone, Copy, Debug, PartialEq, Eq)]
@@ -66,21 +67,24 @@ pub trait Desk {
 
     /// Makes the contents of a name empty, and the name where it isn't there.
     fn create(&mut self, name: &str) -> Result<(), Failed>
-        requires { HasRoom (room self.old) (cost_of (seen self.old) name.now) }
+        requires { HasRoomTold (room self.old) (cost_of (seen self.old) name.now) }
         ensures ok { OnOk result (Changes (seen self.old) (seen self.new) (with_file name.now [])) }
         ensures err { OnErr result (seen self.new ≡ seen self.old) }
-        ensures spent { OnOk result (Spends (room self.old) (room self.new) (cost_of (seen self.old) name.now)) }
+        ensures spent { OnOk result
+            (Spends (room self.old) (room self.new) (cost_of (seen self.old) name.now)) }
         ensures unspent { OnErr result (room self.new ≡ room self.old) }
         ensures cause { HasCause (counts self.old).writing (counts self.new).writing result }
         ensures others { OnlyWriting (counts self.old) (counts self.new) };
 
     /// Adds as many first bytes of the piece as it answers to the contents of a name. It makes a name that isn't there.
     fn append(&mut self, name: &str, bytes: &[u8]) -> Result<usize, Failed>
-        requires { HasRoom (room self.old) (cost_of (seen self.old) name.now + length bytes.now) }
+        requires { HasRoomTold (room self.old) (cost_of (seen self.old) name.now + length bytes.now) }
         ensures within { IfOk result (λ n. n ≤ length bytes.now) }
-        ensures ok { IfOk result (λ n. Changes (seen self.old) (seen self.new) (appended name.now (take n bytes.now))) }
+        ensures ok { IfOk result
+            (λ n. Changes (seen self.old) (seen self.new) (appended name.now (take n bytes.now))) }
         ensures err { OnErr result (seen self.new ≡ seen self.old) }
-        ensures spent { IfOk result (λ n. Spends (room self.old) (room self.new) (cost_of (seen self.old) name.now + n)) }
+        ensures spent { IfOk result
+            (λ n. Spends (room self.old) (room self.new) (cost_of (seen self.old) name.now + n)) }
         ensures unspent { OnErr result (room self.new ≡ room self.old) }
         ensures some { TakesSome (counts self.old).writing (counts self.new).writing
             (seen self.old) (seen self.new) bytes.now result }
@@ -89,9 +93,10 @@ pub trait Desk {
 
     /// Says as many first bytes of the piece as it answers.
     fn say(&mut self, bytes: &[u8]) -> Result<usize, Failed>
-        requires { HasRoom (room self.old) (length bytes.now) }
+        requires { HasRoomTold (room self.old) (length bytes.now) }
         ensures within { IfOk result (λ n. n ≤ length bytes.now) }
-        ensures ok { IfOk result (λ n. Changes (seen self.old) (seen self.new) (with_said (take n bytes.now))) }
+        ensures ok { IfOk result
+            (λ n. Changes (seen self.old) (seen self.new) (with_said (take n bytes.now))) }
         ensures err { OnErr result (seen self.new ≡ seen self.old) }
         ensures spent { IfOk result (Spends (room self.old) (room self.new)) }
         ensures unspent { OnErr result (room self.new ≡ room self.old) }
@@ -102,15 +107,17 @@ pub trait Desk {
 
     /// Complains as many first bytes of the piece as it answers.
     fn complain(&mut self, bytes: &[u8]) -> Result<usize, Failed>
-        requires { HasRoom (room self.old) (length bytes.now) }
+        requires { HasRoomTold (room self.old) (length bytes.now) }
         ensures within { IfOk result (λ n. n ≤ length bytes.now) }
-        ensures ok { IfOk result (λ n. Changes (seen self.old) (seen self.new) (with_complained (take n bytes.now))) }
+        ensures ok { IfOk result
+            (λ n. Changes (seen self.old) (seen self.new) (with_complained (take n bytes.now))) }
         ensures err { OnErr result (seen self.new ≡ seen self.old) }
         ensures spent { IfOk result (Spends (room self.old) (room self.new)) }
         ensures unspent { OnErr result (room self.new ≡ room self.old) }
         ensures some { TakesSome (counts self.old).complaining (counts self.new).complaining
             (seen self.old) (seen self.new) bytes.now result }
-        ensures cause { HasCause (counts self.old).complaining (counts self.new).complaining result }
+        ensures cause { HasCause
+            (counts self.old).complaining (counts self.new).complaining result }
         ensures others { OnlyComplaining (counts self.old) (counts self.new) };
 
     /// A desk that tells a room tells its contents too.

@@ -84,7 +84,14 @@ impl MemoryDesk {
         requires step { 0 < step }
         requires ascend { IsStrictlyIncreasing failing.now }
         ensures { IfOk result (λ d. d
-            ≡ record { seen = nothing; step = step; failing = failing.now; calls = 0; starved = 0; faults = no_faults }) }
+            ≡ record {
+              seen = nothing;
+              step = step;
+              failing = failing.now;
+              calls = 0;
+              starved = 0;
+              faults = no_faults;
+            }) }
     {
         let failing = Vec::from_slice(alloc, failing)?;
         Ok(MemoryDesk {
@@ -106,7 +113,8 @@ impl MemoryDesk {
 
     /// Puts bytes in place of the contents of a name. This is no numbered call, and refused it leaves the desk as it was.
     pub fn put(&mut self, name: &str, bytes: &[u8]) -> Result<(), Memory>
-        ensures ok { OnOk result (self.new ≡ record self.old { seen = with_file name.now bytes.now self.old.seen }) }
+        ensures ok { OnOk result
+            (self.new ≡ record self.old { seen = with_file name.now bytes.now self.old.seen }) }
         ensures err { OnErr result (self.new ≡ self.old) }
     {
         self.folder.put(name, bytes)?;
@@ -169,11 +177,15 @@ impl Desk for MemoryDesk {
     /// step, the length of `into` and the bytes that are left, and leaves the rest of `into`.
     fn read_at(&mut self, name: &str, from: u64, into: &mut [u8]) -> Result<usize, Failed>
         requires { 0 < length into.old }
-        ensures answered { is_ok result ≡ (not (is_listed self.old) && is_some (get self.old.seen.files name.now)) }
-        ensures count { IfOk result (λ n. n ≡ min (min self.old.step (length into.old)) (length (content name.now self.old.seen) - from)) }
-        ensures filled { IfOk result (λ n. into.new ≡ take n (drop from (content name.now self.old.seen)) ++ drop n into.old) }
+        ensures answered { is_ok result
+            ≡ (not (is_listed self.old) && is_some (get self.old.seen.files name.now)) }
+        ensures count { IfOk result (λ n. n ≡ min (min self.old.step (length into.old))
+            (length (content name.now self.old.seen) - from)) }
+        ensures filled { IfOk result (λ n. into.new
+            ≡ take n (drop from (content name.now self.old.seen)) ++ drop n into.old) }
         ensures untouched { OnErr result (into.new ≡ into.old) }
-        ensures after { self.new ≡ (if is_ok result then done (λ s. s) self.old else failed reading_raised self.old) }
+        ensures after { self.new
+            ≡ (if is_ok result then done (λ s. s) self.old else failed reading_raised self.old) }
         ensures bytes { IfOk result (ReadsFrom (Some self.old.seen) name.now from into.new) }
         ensures cause { HasCause self.old.faults.reading self.new.faults.reading result }
     {
@@ -205,7 +217,8 @@ impl Desk for MemoryDesk {
     /// It fails exactly where its number is listed or it wanted memory, and takes the least of the step and the piece's length.
     fn append(&mut self, name: &str, bytes: &[u8]) -> Result<usize, Failed>
         ensures count { IfOk result (λ n. n ≡ min self.old.step (length bytes.now)) }
-        ensures done { IfOk result (λ n. self.new ≡ done (appended name.now (take n bytes.now)) self.old) }
+        ensures done { IfOk result
+            (λ n. self.new ≡ done (appended name.now (take n bytes.now)) self.old) }
         ensures listed { IsTrue (is_listed self.old) → IsErr result }
         ensures refused { OnErr result (self.new ≡ refused writing_raised self.old) }
         ensures some { IfOk result (λ n. 0 < length bytes.now → 0 < n) }
@@ -243,7 +256,8 @@ impl Desk for MemoryDesk {
     /// It fails exactly where its number is listed or it wanted memory, and takes the least of the step and the piece's length.
     fn complain(&mut self, bytes: &[u8]) -> Result<usize, Failed>
         ensures count { IfOk result (λ n. n ≡ min self.old.step (length bytes.now)) }
-        ensures done { IfOk result (λ n. self.new ≡ done (with_complained (take n bytes.now)) self.old) }
+        ensures done { IfOk result
+            (λ n. self.new ≡ done (with_complained (take n bytes.now)) self.old) }
         ensures listed { IsTrue (is_listed self.old) → IsErr result }
         ensures refused { OnErr result (self.new ≡ refused complaining_raised self.old) }
         ensures some { IfOk result (λ n. 0 < length bytes.now → 0 < n) }

@@ -63,7 +63,8 @@ impl NeverFails {
 
     /// Puts bytes in place of the contents of a name, and leaves the room as it was. Refused it leaves the desk as it was.
     pub fn put(&mut self, name: &str, bytes: &[u8]) -> Result<(), Memory>
-        ensures ok { OnOk result (self.new ≡ record self.old { seen = with_file name.now bytes.now self.old.seen }) }
+        ensures ok { OnOk result
+            (self.new ≡ record self.old { seen = with_file name.now bytes.now self.old.seen }) }
         ensures err { OnErr result (self.new ≡ self.old) }
     {
         self.arena.put(name, bytes)?;
@@ -112,8 +113,10 @@ impl Desk for NeverFails {
     /// name that isn't there it gives 0.
     fn read_at(&mut self, name: &str, from: u64, into: &mut [u8]) -> Result<usize, Failed>
         requires { 0 < length into.old }
-        ensures given { result ≡ Ok (min (min self.old.step (length into.old)) (length (content name.now self.old.seen) - from)) }
-        ensures filled { IfOk result (λ n. into.new ≡ take n (drop from (content name.now self.old.seen)) ++ drop n into.old) }
+        ensures given { result ≡ Ok (min (min self.old.step (length into.old))
+            (length (content name.now self.old.seen) - from)) }
+        ensures filled { IfOk result (λ n. into.new
+            ≡ take n (drop from (content name.now self.old.seen)) ++ drop n into.old) }
         ensures after { self.new ≡ self.old }
         ensures bytes { IfOk result (ReadsFrom (Some self.old.seen) name.now from into.new) }
     {
@@ -125,7 +128,8 @@ impl Desk for NeverFails {
     fn create(&mut self, name: &str) -> Result<(), Failed>
         requires { cost_in self.old.seen.files name.now ≤ self.old.room }
         ensures done { IsOk result }
-        ensures after { self.new ≡ spent (with_file name.now []) (cost_in self.old.seen.files name.now) self.old }
+        ensures after { self.new
+            ≡ spent (with_file name.now []) (cost_in self.old.seen.files name.now) self.old }
     {
         self.arena.clear(name);
         Ok(())
@@ -137,7 +141,8 @@ impl Desk for NeverFails {
         ensures count { result ≡ Ok (min self.old.step (length bytes.now)) }
         ensures some { IfOk result (λ n. 0 < length bytes.now → 0 < n) }
         ensures after { IfOk result (λ n. self.new
-            ≡ spent (appended name.now (take n bytes.now)) (cost_in self.old.seen.files name.now + n) self.old) }
+            ≡ spent (appended name.now (take n bytes.now))
+            (cost_in self.old.seen.files name.now + n) self.old) }
     {
         let piece = first_of(bytes, self.step);
         self.arena.append(name, piece);
@@ -149,7 +154,8 @@ impl Desk for NeverFails {
         requires { length bytes.now ≤ self.old.room }
         ensures count { result ≡ Ok (min self.old.step (length bytes.now)) }
         ensures some { IfOk result (λ n. 0 < length bytes.now → 0 < n) }
-        ensures after { IfOk result (λ n. self.new ≡ spent (with_said (take n bytes.now)) n self.old) }
+        ensures after { IfOk result
+            (λ n. self.new ≡ spent (with_said (take n bytes.now)) n self.old) }
     {
         let piece = first_of(bytes, self.step);
         push_all(&mut self.said, piece);
@@ -162,7 +168,8 @@ impl Desk for NeverFails {
         requires { length bytes.now ≤ self.old.room }
         ensures count { result ≡ Ok (min self.old.step (length bytes.now)) }
         ensures some { IfOk result (λ n. 0 < length bytes.now → 0 < n) }
-        ensures after { IfOk result (λ n. self.new ≡ spent (with_complained (take n bytes.now)) n self.old) }
+        ensures after { IfOk result
+            (λ n. self.new ≡ spent (with_complained (take n bytes.now)) n self.old) }
     {
         let piece = first_of(bytes, self.step);
         push_all(&mut self.complained, piece);

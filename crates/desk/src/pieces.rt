@@ -38,7 +38,8 @@ pub fn push_all(all: &mut Vec<u8>, bytes: &[u8])
 pub fn splice(all: &mut Vec<u8>, at: usize, gone: usize, bytes: &[u8])
     requires within { at + gone ≤ vec_len all.old }
     requires fits { vec_len all.old + length bytes.now ≤ vec_capacity all.old + gone }
-    ensures items { all.new.items ≡ take at all.old.items ++ (bytes.now ++ drop (at + gone) all.old.items) }
+    ensures items { all.new.items ≡ take at all.old.items
+        ++ (bytes.now ++ drop (at + gone) all.old.items) }
     ensures len { vec_len all.new + gone ≡ vec_len all.old + length bytes.now }
     ensures capacity { vec_capacity all.old ≤ vec_capacity all.new }
 {

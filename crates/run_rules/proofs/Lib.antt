@@ -1,4 +1,5 @@
 pub mod Sorted
+pub mod OneFilled
 pub mod OneDue
 pub mod Wanteds
 pub mod Readings

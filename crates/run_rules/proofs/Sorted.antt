@@ -3,7 +3,7 @@ use Rattle.std.proofs.Common.{◌≡◌, ◌∙◌, sym, ap, ℕ, ◌<◌, ◌�
 use Rattle.std.specs.Prelude.{◌↔◌}
 use Rattle.classes.specs.Classes.{IsOneOf}
 use Rattle.fill_rules.specs.Ranking.{IsSortedBy}
-use Rattle.run_rules.specs.Due.{IsBelow}
+use Rattle.output_rules.specs.Laws.{IsBelow}
 
 -- the first is the least
 least : (x k : ℕ) (xs : List ℕ) → IsSortedBy IsBelow (x ∷ xs) → IsOneOf k (x ∷ xs) → (k ≡ x) ⊎ (x < k)

@@ -11,10 +11,11 @@ use Rattle.edit_language.specs.declared.edit.EditKind.TheVariants as edits
 use Rattle.edit_language.specs.declared.edit.EditRefusal.{EditRefusal}
 use Rattle.edit_language.specs.declared.edit.EditRefusal.TheVariants.{NoStamp, WrongKind, StampTaken, Breaks}
 use Rattle.run_rules.specs.declared.ended.Ended.{Ended}
-use Rattle.run_rules.specs.declared.ended.Ended.TheVariants.{Done, Usage, TooLong, BadText, Refused, BadScript, EditRefused, Unreadable, Unwritten, Unsaid, Memory}
+use Rattle.run_rules.specs.declared.ended.Ended.TheVariants.{Done, Usage, TooLong, BadText, Refused, BadScript, EditRefused, Unreadable, Unwritten, Unsaid, Memory, Unbuilt}
 use Rattle.run_rules.specs.declared.ended.Role.{Role}
 use Rattle.run_rules.specs.declared.ended.Role.TheVariants.{In, Edits}
 
+-- a fault of a text is called by its kind
 abbrev pub text_kind : TextKind → List ℕ
 text_kind texts.Empty = codes "Empty"
 text_kind texts.BadString = codes "BadString"
@@ -25,6 +26,7 @@ text_kind texts.After = codes "After"
 text_kind texts.TooDeep = codes "TooDeep"
 text_kind texts.BadUtf8 = codes "BadUtf8"
 
+-- an offence is called by its kind alone, without what the kind holds
 abbrev pub offence_kind : OffenceKind → List ℕ
 offence_kind offences.NotBoard = codes "NotBoard"
 offence_kind offences.Version = codes "Version"
@@ -55,6 +57,7 @@ offence_kind offences.DoubleStamp = codes "DoubleStamp"
 offence_kind (offences.Outline fault) = codes "Outline"
 offence_kind offences.TooMany = codes "TooMany"
 
+-- a fault of a script is called by its kind
 abbrev pub edit_kind : EditKind → List ℕ
 edit_kind edits.TooLong = codes "TooLong"
 edit_kind edits.BadWord = codes "BadWord"
@@ -62,6 +65,7 @@ edit_kind edits.TooFewWords = codes "TooFewWords"
 edit_kind edits.TooManyWords = codes "TooManyWords"
 edit_kind edits.BadNumber = codes "BadNumber"
 
+-- a file is called as the usage line calls it
 abbrev pub role_name : Role → List ℕ
 role_name In = codes "IN"
 role_name Edits = codes "EDITS"
@@ -90,3 +94,4 @@ complaint_of (Unreadable role) = codes "zonefill: " ++ (role_name role ++ codes 
 complaint_of (Unwritten given) = codes "zonefill: OUT was cut after " ++ (decimal given ++ codes " bytes\n")
 complaint_of (Unsaid given) = codes "zonefill: report was cut after " ++ (decimal given ++ codes " bytes\n")
 complaint_of Memory = codes "zonefill: out of memory\n"
+complaint_of Unbuilt = codes "zonefill: not built yet\n"

@@ -1,36 +1,59 @@
--- The laws of runs. Those of what is due speak of any geometry that has one answer, so they stand in `proofs/`: `one_due` and
--- `answers_due` in `OneDue`.
-use Rattle.std.specs.Prelude.{◌≡◌, ◌⊎◌, List, ℕ}
+-- The laws of runs. That at most one thing is due of a program's own duties, where each of its commands owes one thing, stands in
+-- `proofs/`: `one_due` and `answers_due` in `OneDue`.
+use Rattle.std.specs.Prelude.{◌≡◌, ◌⊎◌, List}
 use Rattle.desk.specs.declared.Counts.{Counts}
 use Rattle.desk.specs.Seen.{Seen}
 use Rattle.board_language.specs.Board.{Board}
-use Rattle.cluster_rules.specs.Nodes.{Made}
-use Rattle.output_rules.specs.Output.{Traced}
+use Rattle.fill_rules.specs.Made.{Made}
+use Rattle.rings.specs.Rings.{Traced}
 use Rattle.run_rules.specs.declared.words.Command.{Command}
 use Rattle.run_rules.specs.declared.words.UsageFault.{UsageFault}
 use Rattle.run_rules.specs.declared.ended.Ended.{Ended}
-use Rattle.run_rules.specs.Words.{IsCommand, HasFault}
-use Rattle.run_rules.specs.Due.{Geometry, Due, IsDue}
-use Rattle.run_rules.specs.Leaves.{IsCaused, Leaves, IsQuiet, IsAnswerTo}
+use Rattle.run_rules.specs.Words.{GivenWord, IsCommand, HasUsageFault}
+use Rattle.run_rules.specs.Filled.{AreBoardFills, AreTracedOf}
+use Rattle.run_rules.specs.Due.{Due, Duties, all_duties, IsDue}
+use Rattle.run_rules.specs.Leaves.{IsCaused, Leaves, IsDeskFault, IsQuiet, IsAnswerTo}
 
--- at most one list of fills fits a board, and at most one list of outlines fits fills
-pub record HasOneEach (g : Geometry) : Type 0 where
-  pub fills : (b : Board) (fills others : List Made) → g.AreFills b fills → g.AreFills b others → fills ≡ others
-  pub traced : (fills : List Made) (traced others : List Traced) → g.AreTraced fills traced → g.AreTraced fills others → traced ≡ others
+-- a board has at most one list of fills
+abbrev pub OneFillsLaw : Type 0
+OneFillsLaw = (b : Board) (all others : List Made) → AreBoardFills b all → AreBoardFills b others → all ≡ others
+
+-- and its fills at most one list of outlines
+abbrev pub OneOutlinesLaw : Type 0
+OneOutlinesLaw = (all : List Made) (traced others : List Traced) → AreTracedOf all traced → AreTracedOf all others → traced ≡ others
+
+-- each command owes at most one thing
+abbrev pub HasOneEach : Duties → Type 0
+HasOneEach d = (command : Command) (s : Seen) (due other : Due) → d.Owes command s due → d.Owes command s other → due ≡ other
 
 -- at most one thing is due
-abbrev pub OneDueLaw : Type 1
-OneDueLaw = (g : Geometry) → HasOneEach g → (words : List (List ℕ)) (s : Seen) (due other : Due) → IsDue g words s due → IsDue g words s other → due ≡ other
+abbrev pub HasOneDue : Duties → Type 0
+HasOneDue d = (words : List GivenWord) (s : Seen) (due other : Due) → IsDue d words s due → IsDue d words s other → due ≡ other
+
+-- an answer that is no fault of the desk answers what is due, want of memory aside
+abbrev pub AnswersDue : Duties → Type 0
+AnswersDue d =
+    (answer : Ended) (words : List GivenWord) (s t : Seen) (due : Due)
+    → Leaves d answer words s t → (IsDeskFault answer → ⊥) → IsDue d words s due → IsAnswerTo answer due
+
+-- of any duties: where each command owes at most one thing, at most one is due, and is answered where the desk has no fault
+abbrev pub DutiesLaw : Type 1
+DutiesLaw = (d : Duties) → HasOneEach d → HasOneDue d × AnswersDue d
+
+-- at most one thing is due of the whole program
+abbrev pub OneDueLaw : Type 0
+OneDueLaw = HasOneDue all_duties
 
 -- a quiet run answers what is due, want of memory aside
-abbrev pub AnswersDueLaw : Type 1
+abbrev pub AnswersDueLaw : Type 0
 AnswersDueLaw =
-    (g : Geometry) → HasOneEach g → (answer : Ended) (words : List (List ℕ)) (before now : Counts) (s t : Seen) (due : Due)
-    → Leaves g answer words s t → IsCaused answer before now → IsQuiet before now → IsDue g words s due → IsAnswerTo answer due
+    (answer : Ended) (words : List GivenWord) (before now : Counts) (s t : Seen) (due : Due)
+    → Leaves all_duties answer words s t → IsCaused answer before now → IsQuiet before now
+    → IsDue all_duties words s due → IsAnswerTo answer due
 
 -- Words are a command, or have a first fault: one of the two, and not both, nor two of the one.
 pub record WantedLaw : Type 0 where
-  pub some : (words : List (List ℕ)) → ((command : Command) × IsCommand words command) ⊎ ((fault : UsageFault) × HasFault words fault)
-  pub not_both : (words : List (List ℕ)) (command : Command) (fault : UsageFault) → IsCommand words command → HasFault words fault → ⊥
-  pub one_command : (words : List (List ℕ)) (command other : Command) → IsCommand words command → IsCommand words other → command ≡ other
-  pub one_fault : (words : List (List ℕ)) (fault other : UsageFault) → HasFault words fault → HasFault words other → fault ≡ other
+  pub some : (words : List GivenWord) → ((command : Command) × IsCommand words command) ⊎ ((fault : UsageFault) × HasUsageFault words fault)
+  pub not_both : (words : List GivenWord) (command : Command) (fault : UsageFault) → IsCommand words command → HasUsageFault words fault → ⊥
+  pub one_command : (words : List GivenWord) (command other : Command) → IsCommand words command → IsCommand words other → command ≡ other
+  pub one_fault : (words : List GivenWord) (fault other : UsageFault) → HasUsageFault words fault → HasUsageFault words other → fault ≡ other

@@ -2,6 +2,7 @@ pub mod Words
 pub mod Status
 pub mod Complaint
 pub mod Items
+pub mod Filled
 pub mod Due
 pub mod Leaves
 pub mod Laws

@@ -12,9 +12,11 @@ use Rattle.run_rules.specs.declared.words.WordsError.{WordsError}
 use Rattle.run_rules.specs.declared.words.WordsError.TheVariants as errors
 use Rattle.run_rules.specs.Words.Wanted.{Wrong, Run}
 
+-- an option that was read, with its value as a list
 abbrev pub setting_shown : settings.Setting → Setting
 setting_shown s = record { flag = s.flag; value = s.value.now }
 
+-- what was read so far, as lists
 abbrev pub reading_shown : code.Reading → Reading
 reading_shown r = record { stand = r.stand; names = map (λ n. n.now) r.names.items; options = map setting_shown r.options.items }
 
@@ -39,6 +41,7 @@ abbrev pub IsErrorOf : WordsError → Wanted → Type 0
 IsErrorOf errors.Memory wanted = Unit {0}
 IsErrorOf (errors.Bad fault) wanted = wanted ≡ Wrong fault
 
+-- the command that the words want, or the error that refuses them
 abbrev pub IsAnswerOf : Result Command WordsError → Wanted → Type 0
 IsAnswerOf result wanted = MatchResult result (λ command. wanted ≡ Run command) (λ error. IsErrorOf error wanted)
 

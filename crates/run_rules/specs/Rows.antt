@@ -8,22 +8,26 @@ use Rattle.run_rules.specs.declared.words.UsageFault.TheVariants as fault
 use Rattle.run_rules.specs.declared.words.Command.TheVariants.{Fill, Refill, Report, Generate}
 use Rattle.run_rules.specs.declared.ended.Ended.TheVariants.{TooLong, EditRefused, Unsaid}
 use Rattle.run_rules.specs.declared.ended.Role.TheVariants.{Edits}
-use Rattle.run_rules.specs.Words.{Word, wanted}
+use Rattle.run_rules.specs.Words.{GivenWord, wanted}
 use Rattle.run_rules.specs.Words.Wanted.{Wrong, Run}
 use Rattle.run_rules.specs.Items.{items_in}
 use Rattle.run_rules.specs.Complaint.{complaint_of}
 
-abbrev pub a : Word
+-- a name
+abbrev pub a : GivenWord
 a = codes "a"
 
-abbrev pub b : Word
+-- another name
+abbrev pub b : GivenWord
 b = codes "b"
 
+-- the clearances where no option says otherwise: 0.2 mm, and 0.5 mm to the board's edge
 abbrev pub usual : Rules
 usual = record { floor = 200000; edge = 500000 }
 
 -- ---- words that are a command
 
+-- words that want a command
 pub record CommandRows : Type 0 where
   pub fill : wanted (codes "fill" ∷ a ∷ b ∷ []) ≡ Run (Fill a b 1 usual)
   pub threads : wanted (codes "fill" ∷ a ∷ b ∷ codes "--threads=064" ∷ []) ≡ Run (Fill a b 64 usual)
@@ -37,6 +41,7 @@ pub record CommandRows : Type 0 where
 
 -- ---- words that are none
 
+-- words that are refused, each for its fault
 pub record FaultRows : Type 0 where
   pub nothing : wanted [] ≡ Wrong fault.Words
   pub unknown : wanted (codes "file" ∷ a ∷ b ∷ []) ≡ Wrong fault.Words
@@ -58,6 +63,7 @@ pub record FaultRows : Type 0 where
 
 -- ---- of several faults the first counts
 
+-- words with several faults, which are refused for the first
 pub record OrderRows : Type 0 where
   pub words : wanted (codes "fill" ∷ a ∷ codes "--threads=65" ∷ []) ≡ Wrong fault.Words
   pub threads : wanted (codes "fill" ∷ a ∷ a ∷ codes "--clearance=0" ∷ codes "--threads=65" ∷ []) ≡ Wrong fault.Threads
@@ -66,6 +72,7 @@ pub record OrderRows : Type 0 where
 
 -- ---- complaints, and items of a made board
 
+-- what answers complain, and how many items a made board has
 pub record ComplaintRows : Type 0 where
   pub too_long : complaint_of (TooLong Edits 67108865) ≡ codes "zonefill: EDITS is too long\n"
   pub breaks : complaint_of (EditRefused 3 (Breaks (record { at = 400; line = 13; kind = UnknownLayer }))) ≡ codes "zonefill: edit 3: line 13: UnknownLayer\n"

@@ -7,7 +7,7 @@ ghost use Rattle.run_rules.specs.Read.{setting_shown, reading_shown, IsSource, I
 
 use crate::reading::{Setting, reading_of};
 use crate::values::{has_double, has_flag, number_in, values_of};
-use crate::words::{Command, FileName, Flag, Stand, UsageFault, WordsError};
+use crate::words::{Command, FileName, Flag, UsageFault, WordPlace, WordsError};
 use std::alloc::Global;
 
 fn are_same(first: &str, second: &str) -> bool
@@ -18,7 +18,8 @@ fn are_same(first: &str, second: &str) -> bool
 
 /// `fill IN OUT`
 fn fill_of(alloc: Global, names: &[&str], options: &[Setting<'_>]) -> Result<Command, WordsError>
-    ensures { IsAnswerOf result (spec_words.fill_of (map (λ n. n.now) names.now) (map setting_shown options.now)) }
+    ensures { IsAnswerOf result
+        (spec_words.fill_wanted (map (λ n. n.now) names.now) (map setting_shown options.now)) }
 {
     let [input, output] = names else {
         return Err(WordsError::Bad(UsageFault::Words));
@@ -46,7 +47,8 @@ fn are_distinct(first: &str, second: &str, third: &str) -> bool
 
 /// `refill IN EDITS OUT`
 fn refill_of(alloc: Global, names: &[&str], options: &[Setting<'_>]) -> Result<Command, WordsError>
-    ensures { IsAnswerOf result (spec_words.refill_of (map (λ n. n.now) names.now) (map setting_shown options.now)) }
+    ensures { IsAnswerOf result
+        (spec_words.refill_of (map (λ n. n.now) names.now) (map setting_shown options.now)) }
 {
     let [input, edits, output] = names else {
         return Err(WordsError::Bad(UsageFault::Words));
@@ -69,7 +71,8 @@ fn refill_of(alloc: Global, names: &[&str], options: &[Setting<'_>]) -> Result<C
 
 /// `report IN`
 fn report_of(alloc: Global, names: &[&str], options: &[Setting<'_>]) -> Result<Command, WordsError>
-    ensures { IsAnswerOf result (spec_words.report_of (map (λ n. n.now) names.now) (map setting_shown options.now)) }
+    ensures { IsAnswerOf result
+        (spec_words.report_of (map (λ n. n.now) names.now) (map setting_shown options.now)) }
 {
     let [input] = names else {
         return Err(WordsError::Bad(UsageFault::Words));
@@ -118,7 +121,8 @@ fn generate_of(
     names: &[&str],
     options: &[Setting<'_>],
 ) -> Result<Command, WordsError>
-    ensures { IsAnswerOf result (spec_words.generate_of (map (λ n. n.now) names.now) (map setting_shown options.now)) }
+    ensures { IsAnswerOf result
+        (spec_words.generate_of (map (λ n. n.now) names.now) (map setting_shown options.now)) }
 {
     let [seed, size, output] = names else {
         return Err(WordsError::Bad(UsageFault::Words));
@@ -143,7 +147,8 @@ fn command_of(
     names: &[&str],
     options: &[Setting<'_>],
 ) -> Result<Command, WordsError>
-    ensures { IsAnswerOf result (spec_words.command_of command.now (map (λ n. n.now) names.now) (map setting_shown options.now)) }
+    ensures { IsAnswerOf result (spec_words.command_of command.now
+        (map (λ n. n.now) names.now) (map setting_shown options.now)) }
 {
     if are_same(command, "fill") {
         fill_of(alloc, names, options)
@@ -158,12 +163,12 @@ fn command_of(
     }
 }
 
-fn is_whole(stand: Stand) -> bool
-    ensures { result ≡ spec_words.is_whole stand }
+fn is_whole(stand: WordPlace) -> bool
+    ensures { result ≡ spec_words.is_whole_stand stand }
 {
     match stand {
-        Stand::Anywhere | Stand::Behind => true,
-        Stand::AtValue(_) => false,
+        WordPlace::Anywhere | WordPlace::Behind => true,
+        WordPlace::AtValue(_) => false,
     }
 }
 

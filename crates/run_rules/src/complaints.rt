@@ -7,8 +7,8 @@ ghost use Rattle.run_rules.specs.Complaint.{complaint_of, text_kind, offence_kin
 
 use crate::ended::{Ended, Role};
 use arrayvec::ArrayVec;
-use board_language::OffenceKind;
-use edit_language::{EditKind, EditRefusal, Offence};
+use board_language::{Offence, OffenceKind};
+use edit_language::{EditKind, EditRefusal};
 use itoa::Buffer;
 use sexpr_text::TextKind;
 
@@ -130,7 +130,8 @@ fn number_line(first: &[u8], number: u64, last: &[u8]) -> Line
 
 /// A line about a place in a text.
 fn place_line(at: u64, kind: TextKind) -> Line
-    ensures { result.items ≡ codes "zonefill: byte " ++ (decimal at ++ (codes ": " ++ (text_kind kind ++ codes "\n"))) }
+    ensures { result.items ≡ codes "zonefill: byte "
+        ++ (decimal at ++ (codes ": " ++ (text_kind kind ++ codes "\n"))) }
 {
     let mut line = Line::new();
     add(&mut line, b"zonefill: byte ");
@@ -155,7 +156,8 @@ fn add_line_kind(line: &mut Line, number: u64, kind: &[u8])
 }
 
 fn offence_line(offence: Offence) -> Line
-    ensures { result.items ≡ codes "zonefill: " ++ line_kind offence.line (offence_kind offence.kind) }
+    ensures { result.items ≡ codes "zonefill: "
+        ++ line_kind offence.line (offence_kind offence.kind) }
 {
     let mut line = Line::new();
     add(&mut line, b"zonefill: ");
@@ -188,7 +190,8 @@ fn add_refusal(line: &mut Line, refusal: EditRefusal)
 }
 
 fn edit_line(index: u32, refusal: EditRefusal) -> Line
-    ensures { result.items ≡ codes "zonefill: edit " ++ (decimal index ++ (codes ": " ++ refusal_text refusal)) }
+    ensures { result.items ≡ codes "zonefill: edit "
+        ++ (decimal index ++ (codes ": " ++ refusal_text refusal)) }
 {
     let mut line = Line::new();
     add(&mut line, b"zonefill: edit ");
@@ -226,5 +229,6 @@ pub fn complaint(ended: &Ended) -> Line
             b" bytes\n",
         ),
         Ended::Memory => line_of(b"zonefill: out of memory\n", b"", b""),
+        Ended::Unbuilt => line_of(b"zonefill: not built yet\n", b"", b""),
     }
 }

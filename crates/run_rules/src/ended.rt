@@ -3,7 +3,8 @@ ghost use Rattle.std.specs.Prelude.{◌≡◌};
 ghost use Rattle.run_rules.specs.Status.{status_of};
 
 use crate::words::UsageFault;
-use edit_language::{EditFault, EditRefusal, Offence};
+use board_language::Offence;
+use edit_language::{EditFault, EditRefusal};
 use sexpr_text::TextFault;
 
 /// Which file an answer is about.
@@ -40,6 +41,8 @@ pub enum Ended {
     Unsaid { given: u64 },
     /// Want of memory.
     Memory,
+    /// For now: the board is accepted, and it is none of those that are filled yet. It goes when every board is filled.
+    Unbuilt,
 }
 
 /// The exit status of the program.
@@ -52,7 +55,8 @@ pub fn status(ended: &Ended) -> u8
         | Ended::BadText(_)
         | Ended::Refused(_)
         | Ended::BadScript(_)
-        | Ended::EditRefused { .. } => 1,
+        | Ended::EditRefused { .. }
+        | Ended::Unbuilt => 1,
         Ended::Usage(_) => 2,
         Ended::Unreadable { .. } | Ended::Unwritten { .. } | Ended::Unsaid { .. } => 3,
         Ended::Memory => 4,

@@ -3,18 +3,17 @@
 //! Places are numbers of bytes, lines and edits count from 1, lengths are nanometres.
 #![tactic(auto)]
 
-ghost use Rattle.run_rules.specs.Laws.{WantedLaw};
+ghost use Rattle.run_rules.specs.Laws.{WantedLaw, OneFillsLaw, OneOutlinesLaw, OneDueLaw, AnswersDueLaw};
 ghost use Rattle.run_rules.specs.Rows.{CommandRows, FaultRows, OrderRows, ComplaintRows};
 
 mod commands;
 mod complaints;
 mod ended;
 mod reading;
-#[cfg(test)]
-mod tests;
 mod values;
 mod words;
 
+pub use board_language::Offence;
 pub use commands::read_words;
 pub use complaints::{Line, complaint};
 pub use ended::{Ended, Role, status};
@@ -23,6 +22,18 @@ pub use words::{Command, FileName, Flag, UsageFault, WordsError};
 /// Words are a command, or have a first fault: just one of the two.
 pub fn wanted_law()
     ensures { WantedLaw }
+{}
+
+/// A board has at most one list of fills, and fills have at most one list of outlines.
+pub fn filled_law()
+    ensures fills { OneFillsLaw }
+    ensures outlines { OneOutlinesLaw }
+{}
+
+/// At most one thing is due of a run, and a run in which no count of faults rose answers it, want of memory aside.
+pub fn due_law()
+    ensures one { OneDueLaw }
+    ensures answers { AnswersDueLaw }
 {}
 
 /// Words worked by hand, and what runs complain.

@@ -4,9 +4,9 @@ ghost use Rattle.std.specs.String.{string_bytes};
 ghost use Rattle.run_rules.specs.Words.{nothing_read, with_words};
 ghost use Rattle.run_rules.specs.Words as words;
 ghost use Rattle.run_rules.specs.Read.{reading_shown, IsRead};
-ghost use Rattle.run_rules.specs.declared.words.Stand.TheVariants.{Anywhere, AtValue};
+ghost use Rattle.run_rules.specs.declared.words.WordPlace.TheVariants.{Anywhere, AtValue};
 
-use crate::words::{Flag, Stand};
+use crate::words::{Flag, WordPlace};
 use grid_num::Memory;
 use std::alloc::Global;
 
@@ -20,7 +20,7 @@ pub struct Setting<'a> {
 /// What was read of the words so far.
 #[derive(Drop)]
 pub struct Reading<'a> {
-    pub stand: Stand,
+    pub stand: WordPlace,
     pub names: Vec<&'a str>,
     pub options: Vec<Setting<'a>>,
 }
@@ -65,23 +65,26 @@ fn begins_with_dash(word: &[u8]) -> bool
 
 impl<'a> Reading<'a> {
     fn push_name(&mut self, word: &'a str) -> Result<(), Memory>
-        ensures { OnOk result (reading_shown self.new ≡ words.with_name word.now (reading_shown self.old)) }
+        ensures { OnOk result
+            (reading_shown self.new ≡ words.with_name word.now (reading_shown self.old)) }
     {
         self.names.push(word)?;
         Ok(())
     }
 
     fn push_setting(&mut self, flag: Flag, value: &'a [u8]) -> Result<(), Memory>
-        ensures { OnOk result (reading_shown self.new ≡ words.with_setting value.now (reading_shown self.old) flag) }
+        ensures { OnOk result
+            (reading_shown self.new ≡ words.with_setting value.now (reading_shown self.old) flag) }
     {
         self.options.push(Setting { flag, value })?;
-        self.stand = Stand::Anywhere;
+        self.stand = WordPlace::Anywhere;
         Ok(())
     }
 
     /// Takes a word that is an option, with its value behind its `=` or in the next word. Says whether there is such an option.
     fn take_option(&mut self, word: &'a [u8]) -> Result<bool, Memory>
-        ensures { IfOk result (λ known. IsRead known (words.with_option word.now (reading_shown self.old)) (reading_shown self.new)) }
+        ensures { IfOk result (λ known. IsRead known
+            (words.with_option word.now (reading_shown self.old)) (reading_shown self.new)) }
     {
         let front = front_of(word);
         let Some(flag) = flag_of(&word[..front]) else {
@@ -90,17 +93,19 @@ impl<'a> Reading<'a> {
         if front < word.len() {
             self.push_setting(flag, &word[front + 1..])?;
         } else {
-            self.stand = Stand::AtValue(flag);
+            self.stand = WordPlace::AtValue(flag);
         }
         Ok(true)
     }
 
     /// Takes a word where names and options may stand.
     fn take_anywhere(&mut self, word: &'a str) -> Result<bool, Memory>
-        ensures { IfOk result (λ known. IsRead known (words.with_word_at Anywhere word.now (reading_shown self.old)) (reading_shown self.new)) }
+        ensures { IfOk result (λ known. IsRead known
+            (words.with_word_at Anywhere word.now (reading_shown self.old))
+            (reading_shown self.new)) }
     {
         if word == "--" {
-            self.stand = Stand::Behind;
+            self.stand = WordPlace::Behind;
             return Ok(true);
         }
         if is_option(word.as_bytes()) {
@@ -112,7 +117,9 @@ impl<'a> Reading<'a> {
 
     /// Takes the value of an option.
     fn take_value(&mut self, flag: Flag, word: &'a str) -> Result<bool, Memory>
-        ensures { IfOk result (λ known. IsRead known (words.with_word_at (AtValue flag) word.now (reading_shown self.old)) (reading_shown self.new)) }
+        ensures { IfOk result (λ known. IsRead known
+            (words.with_word_at (AtValue flag) word.now (reading_shown self.old))
+            (reading_shown self.new)) }
     {
         if begins_with_dash(word.as_bytes()) {
             return Ok(false);
@@ -124,12 +131,13 @@ impl<'a> Reading<'a> {
     /// Takes a word behind the command. Says whether it may stand there.
     #[tactic(auto, unfolding(crate::specs::Words::with_word))]
     fn take(&mut self, word: &'a str) -> Result<bool, Memory>
-        ensures { IfOk result (λ known. IsRead known (words.with_word (reading_shown self.old) word.now) (reading_shown self.new)) }
+        ensures { IfOk result (λ known. IsRead known
+            (words.with_word (reading_shown self.old) word.now) (reading_shown self.new)) }
     {
         match self.stand {
-            Stand::Anywhere => self.take_anywhere(word),
-            Stand::AtValue(flag) => self.take_value(flag, word),
-            Stand::Behind => {
+            WordPlace::Anywhere => self.take_anywhere(word),
+            WordPlace::AtValue(flag) => self.take_value(flag, word),
+            WordPlace::Behind => {
                 self.push_name(word)?;
                 Ok(true)
             }
@@ -139,10 +147,11 @@ impl<'a> Reading<'a> {
 
 /// The names and options of the words behind a command; none where a word may not stand where it stands.
 pub fn reading_of<'a>(alloc: Global, words: &'a [String]) -> Result<Option<Reading<'a>>, Memory>
-    ensures { IfOk result (λ r. option_map reading_shown r ≡ with_words nothing_read (map string_bytes words.now)) }
+    ensures { IfOk result
+        (λ r. option_map reading_shown r ≡ with_words nothing_read (map string_bytes words.now)) }
 {
     let mut reading = Reading {
-        stand: Stand::Anywhere,
+        stand: WordPlace::Anywhere,
         names: Vec::new(alloc),
         options: Vec::new(alloc),
     };

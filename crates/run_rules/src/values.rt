@@ -4,14 +4,14 @@ ghost use Rattle.std.specs.List.{list_all};
 ghost use Rattle.std.specs.Char.{is_ascii_digit, IsAsciiDigit};
 ghost use Rattle.grid_num.specs.Spelling.{number};
 ghost use Rattle.run_rules.specs.Words as words;
-ghost use Rattle.board_language.specs.Items.{size_of};
-ghost use Rattle.board_language.specs.Numbers.{length_of};
+ghost use Rattle.board_text.specs.Items.{size_of};
+ghost use Rattle.board_text.specs.Numbers.{length_of};
 ghost use Rattle.run_rules.specs.Read.{setting_shown, AreValues, IsValueFault};
 
 use crate::reading::Setting;
 use crate::words::{Flag, UsageFault};
 use board_language::Rules;
-use board_parts::{length_fault, length_of};
+use board_text::{length_fault, length_of};
 
 // ---- the values of options
 
@@ -38,9 +38,9 @@ pub fn has_flag(flag: Flag, options: &[Setting<'_>]) -> bool
 }
 
 /// Whether an option stands twice.
-#[tactic(auto, unfolding(crate::specs::Words::has_double))]
+#[tactic(auto, unfolding(crate::specs::Words::has_setting_twice))]
 pub fn has_double(options: &[Setting<'_>]) -> bool
-    ensures { result ≡ words.has_double (map setting_shown options.now) }
+    ensures { result ≡ words.has_setting_twice (map setting_shown options.now) }
 {
     'options: for place in 0..options.len() {
         if has_flag(options[place].flag, &options[place + 1..]) {

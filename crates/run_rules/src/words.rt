@@ -55,7 +55,7 @@ pub enum Flag {
 
 /// Where the reading of the words behind a command stands.
 #[derive(Clone, Copy, PartialEq, Eq, Debug, Drop)]
-pub enum Stand {
+pub enum WordPlace {
     /// At a name or an option.
     Anywhere,
     /// At the value of an option.

@@ -3,26 +3,17 @@
 //! Places and lengths of texts are in bytes, lengths on a board in nanometres.
 #![tactic(auto)]
 
-mod complaint;
-mod ended;
-mod filled;
-mod run;
-#[cfg(test)]
-mod tests;
-mod words;
-
 ghost use Rattle.std.specs.Prelude.{◌≡◌, ◌<◌, map};
 ghost use Rattle.std.specs.String.{string_bytes};
 ghost use Rattle.std.specs.IoError.{error_kind};
 ghost use Rattle.std.specs.declared.io.ErrorKind.TheVariants.{OutOfMemory};
-ghost use Rattle.zonefill.specs.Leaves.{HasRoomFor};
-ghost use Rattle.zonefill.specs.declared.ended.Ended.TheVariants.{Usage, Memory};
-ghost use Rattle.zonefill.specs.declared.ended.UsageFault.TheVariants.{Words};
+ghost use Rattle.run_rules.specs.Leaves.{HasRoomFor};
+ghost use Rattle.run_rules.specs.declared.ended.Ended.TheVariants.{Usage, Memory};
+ghost use Rattle.run_rules.specs.declared.words.UsageFault.TheVariants.{Words};
+ghost use Rattle.top_call.specs.Today.{today};
 
-use complaint::complaint;
-use desk::{Desk, RealDesk};
-use ended::{Ended, UsageFault, status};
-use run::run_single;
+use desk::{Desk, RealDesk, complain_all};
+use run_rules::{Ended, UsageFault, complaint, status};
 use std::alloc::Global;
 use std::marker::Brand;
 use std::process::ExitCode;
@@ -30,7 +21,7 @@ use std::rt::Env;
 use std::sync::ledger::{Blank, Ledger};
 use std::{env, io};
 use step_count::Steps;
-use whole_files::complain_all;
+use top_call::run_single;
 
 /// The words behind the program's name.
 fn words_given<R: Env + AllocGlobal>(rt: &R) -> io::Result<Vec<String>> {
@@ -53,7 +44,8 @@ fn run_counted<D: Desk, L: Ledger>(
     requires name { blank.name ≡ L.name }
     requires parts { blank.parts ≡ L.parts }
     requires some { 0 < blank.parts }
-    requires room { HasRoomFor (map string_bytes words.now) (D.seen desk.old) (D.room desk.old) }
+    requires room { HasRoomFor today
+        (map string_bytes words.now) (D.seen desk.old) (D.room desk.old) }
 {
     let mut steps = Steps::<L>::new(blank);
     run_single(alloc, words, desk, &mut steps)

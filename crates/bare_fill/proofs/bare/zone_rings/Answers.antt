@@ -1,9 +1,7 @@
-use Rattle.std.proofs.Common.{map}
-use Rattle.zone_fill.specs.Rectangle.{corners_shown}
 use Rattle.bare_fill.proofs.Rings.{zone_rings_are}
 use Rattle.bare_fill.proofs.bare.zone_rings.Goals as goal
 
 pub returns-clause-some : goal.returns-clause-some
 returns-clause-some c =
-    zone_rings_are c.args.zone.now c.in-Some.outline c.in_ok-to_write.field-0.items (map corners_shown c.in_ok-rings.rings.items) c.if-not-zone.false c.in-Some.ensures.some.0 c.in-Some.ensures.some.1
-    c.in_ok-rings.ensures.rings c.in_ok-to_write.ensures.same c.in_ok-to_write.ensures.range
+    zone_rings_are c.args.zone.now c.in-Some.outline c.in_ok-rings.rings.items c.if-not-zone.false c.in-Some.ensures.some.0 c.in-Some.ensures.some.1
+    c.in_ok-rings.ensures.rings c.in_ok-rings.ensures.range

@@ -4,12 +4,12 @@ use Rattle.run_rules.specs.declared.words.Flag.TheVariants.{Threads}
 use Rattle.run_rules.specs.declared.words.UsageFault.{UsageFault}
 use Rattle.run_rules.specs.declared.words.UsageFault.TheVariants as fault
 use Rattle.run_rules.specs.declared.words.Command.TheVariants.{Report}
-use Rattle.run_rules.specs.Words.{Word, Setting, has_flag, rules_in, checked, report_of}
+use Rattle.run_rules.specs.Words.{GivenWord, Setting, has_flag, rules_in, checked, report_of}
 use Rattle.run_rules.specs.Words.Wanted.{Wrong}
 use Rattle.run_rules.specs.Read.{setting_shown, IsValueFault}
 use Rattle.run_rules.proofs.commands.report_of.Goals as goal
 
-faulty : {X : Type 0} (f : X → Word) (xs : List X) (settings : List Setting) (why : UsageFault) → 1 ≤ length xs → length xs < 2 → has_flag Threads settings ≡ false
+faulty : {X : Type 0} (f : X → GivenWord) (xs : List X) (settings : List Setting) (why : UsageFault) → 1 ≤ length xs → length xs < 2 → has_flag Threads settings ≡ false
     → IsValueFault why settings → report_of (map f xs) settings ≡ Wrong why
 faulty f [] settings why l k e h = absurd (omega (arith, l))
 faulty f (x ∷ []) settings why l k e h =

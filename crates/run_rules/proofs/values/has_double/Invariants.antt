@@ -5,4 +5,4 @@ use Rattle.run_rules.proofs.values.has_double.Given as goal
 
 -- the options that are left say the same as all
 abbrev pub invariant-options : goal.invariant-options
-invariant-options l = words.has_double (map setting_shown (drop l.place l.options)) ≡ words.has_double (map setting_shown l.options)
+invariant-options l = words.has_setting_twice (map setting_shown (drop l.place l.options)) ≡ words.has_setting_twice (map setting_shown l.options)

@@ -1,0 +1,5 @@
+pub mod OneTask
+pub mod Filling
+pub mod Owes
+pub mod OneDue
+pub mod EndsOf

@@ -1,0 +1,4 @@
+pub mod Output
+pub mod Today
+pub mod Rows
+pub mod Refusals

@@ -1,0 +1,82 @@
+-- Why a text isn't filled, and what the parts of a run answer.
+use Rattle.std.specs.Prelude.{◌≡◌, ℕ, List}
+use Rattle.desk.specs.Seen.{Seen}
+use Rattle.desk.specs.declared.whole_files.ReadStop.{ReadStop}
+use Rattle.desk.specs.declared.whole_files.ReadStop.TheVariants as stops
+use Rattle.sexpr_text.specs.Items.{Item}
+use Rattle.sexpr_text.specs.Trees.{IsRoot}
+use Rattle.sexpr_text.specs.Faults.{IsFault}
+use Rattle.sexpr_text.specs.declared.error.TextError.{TextError}
+use Rattle.sexpr_text.specs.declared.error.TextError.TheVariants as text_errors
+use Rattle.board_language.specs.declared.board.Rules.{Rules}
+use Rattle.board_language.specs.Board.{Board}
+use Rattle.board_language.specs.Reading.{IsOffence}
+use Rattle.board_model.specs.declared.error.BoardError.{BoardError}
+use Rattle.board_model.specs.declared.error.BoardError.TheVariants as board_errors
+use Rattle.edit_language.specs.Edited.{IsBoardOf}
+use Rattle.bare_fill.specs.Bare.{IsBuilt}
+use Rattle.run_rules.specs.declared.words.Command.TheVariants.{Fill}
+use Rattle.run_rules.specs.declared.words.WordsError.{WordsError}
+use Rattle.run_rules.specs.declared.words.WordsError.TheVariants as words_errors
+use Rattle.run_rules.specs.declared.ended.Ended.{Ended}
+use Rattle.run_rules.specs.declared.ended.Ended.TheVariants as ended
+use Rattle.run_rules.specs.declared.ended.Role.TheVariants.{In}
+use Rattle.run_rules.specs.Words.{GivenWord}
+use Rattle.run_rules.specs.Words.Wanted.{Run}
+use Rattle.run_rules.specs.Due.{IsDue}
+use Rattle.run_rules.specs.Due.Due.{Refuse}
+use Rattle.top_call.specs.declared.filled.Refusal.{Refusal}
+use Rattle.top_call.specs.declared.filled.Refusal.TheVariants.{Memory, BadText, Refused, Unbuilt}
+use Rattle.top_call.specs.declared.words.Filling.{Filling}
+use Rattle.top_call.specs.Today.{asked_today, today}
+
+-- ---- words
+
+-- the words want this filling, by some number of workers
+abbrev pub IsFilling : Filling → List GivenWord → Type 0
+IsFilling f words = (threads : ℕ) × (asked_today words ≡ Run (Fill f.input f.output threads f.rules))
+
+-- whatever the files hold, the words owe this fault; want of memory aside
+abbrev pub IsWordsError : WordsError → List GivenWord → Type 0
+IsWordsError words_errors.Memory words = Unit {0}
+IsWordsError (words_errors.Bad fault) words = (s : Seen) → IsDue today words s (Refuse (ended.Usage fault))
+
+-- ---- texts
+
+-- the refusal that a text's error makes
+abbrev pub IsRefusalOf : TextError → Refusal → Type 0
+IsRefusalOf text_errors.Memory refusal = refusal ≡ Memory
+IsRefusalOf (text_errors.Bad fault) refusal = refusal ≡ BadText fault
+
+-- the refusal that a board's error makes
+abbrev pub IsOfBoard : BoardError → Refusal → Type 0
+IsOfBoard board_errors.Memory refusal = refusal ≡ Memory
+IsOfBoard (board_errors.Bad offence) refusal = refusal ≡ Refused offence
+
+-- a text is refused by its fault, by the first offence of its board, or where its accepted board is none of those
+-- that are filled today; want of memory aside
+abbrev pub IsOwed : Rules → List ℕ → Refusal → Type 0
+IsOwed rules text Memory = Unit {0}
+IsOwed rules text (BadText fault) = IsFault text fault.at fault.kind
+IsOwed rules text (Refused offence) = (root : Item) × IsRoot text root × IsOffence text root offence.at offence.line offence.kind
+IsOwed rules text Unbuilt = (b : Board) × IsBoardOf text rules b × (IsBuilt b → ⊥)
+
+-- ---- answers
+
+-- the answer where the words are no command
+abbrev pub answer_of_words : WordsError → Ended
+answer_of_words words_errors.Memory = ended.Memory
+answer_of_words (words_errors.Bad fault) = ended.Usage fault
+
+-- the answer where IN isn't read
+abbrev pub answer_of_stop : ReadStop → Ended
+answer_of_stop stops.Memory = ended.Memory
+answer_of_stop stops.Failed = ended.Unreadable In
+answer_of_stop stops.TooLong = ended.TooLong In 67108865
+
+-- the answer where a text is refused
+abbrev pub answer_of : Refusal → Ended
+answer_of Memory = ended.Memory
+answer_of (BadText fault) = ended.BadText fault
+answer_of (Refused offence) = ended.Refused offence
+answer_of Unbuilt = ended.Unbuilt

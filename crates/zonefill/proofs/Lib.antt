@@ -1,6 +1,0 @@
-pub mod OneTask
-pub mod Filling
-pub mod Owes
-pub mod OneDue
-pub mod EndsOf
-pub mod NoWords
