@@ -1,6 +1,6 @@
 """Boards made by rule, written apart from the program: docs/GENERATOR.md in Python.
 
-Prints the board of a seed and a size. The tests of `crates/board_gen` have its answers for seed 7 and size 3."""
+Prints the board of a seed and a size. The tests of `crates/fill_tests` have its answers for seed 7 and size 3."""
 
 import sys
 from decimal import Decimal

@@ -1,5 +1,5 @@
 #!/usr/bin/env python3
-"""Prints the table of hulls in crates/copper_shape/src/hull_table.rt: random segments with their hulls, worked out in exact
+"""Prints the table of hulls in crates/geometry_table: random segments with their hulls, worked out in exact
 fractions and not by the program.
 
 A row: the ends and the radius in halves of a nanometre, how many hulls, the number of one of them, and its bounds on x,

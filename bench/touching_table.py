@@ -1,5 +1,5 @@
 #!/usr/bin/env python3
-"""The table of crates/cores/src/tests.rt: pairs of cores with the least whole reach at which they touch.
+"""The table of cores in crates/geometry_table/stdin: pairs of cores with the least whole reach at which they touch.
 
 The expected numbers come from here alone, in exact fractions, and by another way than the crate's: the least distance of
 two convex sets is that of the origin from the hull of all differences of their corners. Run it to print the table, a pair and its least reach on each line.
