@@ -4,6 +4,7 @@
     python3 bench/gate.py [NAME..]         runs `rt ci` (of these crates alone, where some are named) and prints its lines as they come,
                                            then the table; out/gate.log keeps what was measured
     python3 bench/gate.py --log FILE ..    keeps it in FILE, from minute to minute, so that a run that is cut off is told too
+    python3 bench/gate.py --anew ..        proves and tries all again, also what an earlier run on this machine passed
     python3 bench/gate.py --read FILE ..   prints the table of earlier runs, added up: of runs that went on where others ended,
                                            what all of it took
 
@@ -35,27 +36,28 @@ def words_of(pid):
 
 
 def seconds_of(pid):
-    """Returns the parent of a process and its processor seconds, or None where it has ended."""
+    """Returns a process's parent, when it began, and its processor seconds; or None where it has ended."""
     try:
         with open(f'/proc/{pid}/stat') as file:
             fields = file.read().rsplit(')', 1)[1].split()
     except OSError:
         return None
-    return int(fields[1]), sum(int(it) for it in fields[11:13]) / TICK
+    return int(fields[1]), int(fields[19]), sum(int(it) for it in fields[11:13]) / TICK
 
 
 def below(root):
-    """Returns the processes below one, each with its seconds."""
+    """Returns the processes below one, by their numbers and when they began (a number comes again), each with its seconds."""
     found, parents = {}, {}
     for name in os.listdir('/proc'):
         it = seconds_of(name) if name.isdigit() else None
         if it:
-            parents[int(name)], found[int(name)] = it
+            parents[int(name)], began, seconds = it
+            found[int(name), began] = seconds
     def is_below(pid):
         while pid > 1 and pid != root:
             pid = parents.get(pid, 0)
         return pid == root
-    return {pid: it for pid, it in found.items() if is_below(pid)}
+    return {key: it for key, it in found.items() if is_below(key[0])}
 
 
 def crate_and_kind(pid):
@@ -76,9 +78,9 @@ def crate_and_kind(pid):
 class Run:
     """A run of the gate, with the greatest time seen of each of its processes."""
 
-    def __init__(self, names, log):
+    def __init__(self, words, log):
         self.begin, self.taken, self.last, self.log, self.ended = time.time(), {}, '', log, threading.Event()
-        self.process = subprocess.Popen(['rt', 'ci', *names], stdout=subprocess.PIPE, stderr=subprocess.STDOUT, text=True, errors='replace')
+        self.process = subprocess.Popen(['rt', 'ci', *words], stdout=subprocess.PIPE, stderr=subprocess.STDOUT, text=True, errors='replace')
 
     def record(self):
         """Returns what was measured so far, by crate and kind."""
@@ -97,10 +99,10 @@ class Run:
         """Notes times until the run ends."""
         turn = 0
         while not self.ended.wait(0.5):
-            for pid, seconds in below(self.process.pid).items():
-                whose = self.taken[pid][0] if pid in self.taken else crate_and_kind(pid)
+            for key, seconds in below(self.process.pid).items():
+                whose = self.taken[key][0] if key in self.taken else crate_and_kind(key[0])
                 if whose:
-                    self.taken[pid] = whose, seconds
+                    self.taken[key] = whose, seconds
             turn += 1
             if turn % 60 == 0:
                 self.keep()
@@ -177,13 +179,14 @@ def main():
     parser = argparse.ArgumentParser(description=__doc__, formatter_class=argparse.RawDescriptionHelpFormatter)
     parser.add_argument('--log', default='out/gate.log')
     parser.add_argument('--read', nargs='+')
+    parser.add_argument('--anew', action='store_true')
     parser.add_argument('names', nargs='*')
     given = parser.parse_args()
     os.chdir(os.path.join(os.path.dirname(os.path.abspath(__file__)), '..'))
     if given.read:
         table(added(given.read))
         return 0
-    run = Run(given.names, given.log)
+    run = Run([*(['--anew'] if given.anew else []), *given.names], given.log)
     status = run.follow()
     table(run.record())
     return status
