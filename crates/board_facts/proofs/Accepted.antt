@@ -6,10 +6,9 @@ use Rattle.sexpr_text.specs.Items.{Item}
 use Rattle.board_text.specs.Things.{Placed, thing_of, items_of_board}
 use Rattle.board_text.specs.Items.{Context, declared_nets, context_of}
 use Rattle.board_language.specs.Reading.{AreSound, IsAccepted, board_of, all_of, track_from, via_from, pad_from, zone_from, area_from, edges_from}
-use Rattle.fill_rules.proofs.Members.{one_of_flat}
-use Rattle.fill_rules.proofs.Sound as rules_of
-use Rattle.board_facts.specs.Facts.{IsSoundTrack, IsSoundVia, IsSoundPad, IsSoundZone, IsSoundArea, IsSoundBoardEdge}
-use Rattle.board_facts.specs.Laws.{AcceptedLaw, FactsLaw, SoundBoardLaw}
+use Rattle.board_language.proofs.Members.{one_of_flat}
+use Rattle.board_language.specs.Facts.{IsSoundTrack, IsSoundVia, IsSoundPad, IsSoundZone, IsSoundArea, IsSoundBoardEdge}
+use Rattle.board_facts.specs.Laws.{AcceptedLaw, FactsLaw}
 use Rattle.board_language.proofs.Few.{accepted_few}
 use Rattle.board_facts.proofs.Tried.{tried, all_of_members}
 use Rattle.board_facts.proofs.Tracks.{track_read, via_read}
@@ -36,7 +35,7 @@ things_few c root a =
 
 pub accepted : AcceptedLaw
 unfolding IsAccepted board_of context_of
-accepted bytes root rules a =
+accepted bytes root rules r a =
     let c = context_of bytes root in
     let items = items_of_board bytes root in
     record {
@@ -49,13 +48,9 @@ accepted bytes root rules a =
       vias = all_of_members (IsSoundVia (length c.copper)) _ (λ y i. via_read c items y (tried c items via_from y a i));
       pads = all_of_members (IsSoundPad (length c.copper)) _ (λ y i. pad_read c root y a (tried c items pad_from y a i));
       edges = all_of_members IsSoundBoardEdge _ (λ e i.
-          (let r = one_of_flat (λ (p : Placed). edges_from c p.item (thing_of c.bytes p)) e items i in edge_read c r.0.item (thing_of c.bytes r.0) e r.2));
+          (let f = one_of_flat (λ (p : Placed). edges_from c p.item (thing_of c.bytes p)) e items i in edge_read c f.0.item (thing_of c.bytes f.0) e f.2));
+      rules = r;
     }
 
 pub facts : FactsLaw
-facts bytes root rules r a = record { sound = accepted bytes root rules a; placed = places bytes root rules r; stamps = stamps bytes root a }
-
-pub sound : SoundBoardLaw
-sound b s =
-    rules_of.sound_law b (λ z i. (rules_of.all_one_of (IsSoundZone (length b.layers)) b.zones z s.zones i).thick)
-    (λ p i. (rules_of.all_one_of (IsSoundPad (length b.layers)) b.pads p s.pads i).pad)
+facts bytes root rules s r a = record { sound = accepted bytes root rules s a; placed = places bytes root rules r; stamps = stamps bytes root a }

@@ -12,8 +12,8 @@ use Rattle.board_text.specs.Items.{Context, point_at}
 use Rattle.board_language.specs.Edges.{form_of, is_edge, sides_to, sides_of, rectangle_corners, corner_lists, edges_as, edges_read}
 use Rattle.board_text.specs.Things as things
 use Rattle.board_language.specs.Reading.{edges_from}
-use Rattle.fill_rules.proofs.Members.{get_or_is, one_of_map}
-use Rattle.board_facts.specs.Facts.{IsPlaceInReach, IsSoundBoardEdge}
+use Rattle.board_language.proofs.Members.{get_or_is, one_of_map}
+use Rattle.board_language.specs.Facts.{IsPlaceInReach, IsSoundBoardEdge}
 use Rattle.board_facts.proofs.Near.{point_near}
 
 abbrev AllNear : List Point → Type 0

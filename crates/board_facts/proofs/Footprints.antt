@@ -13,7 +13,7 @@ use Rattle.board_text.specs.Things.{Placed, Site, Root, OnBoard, InFootprint, Th
 use Rattle.board_text.specs.Items.{Context, is_no_length, length_in}
 use Rattle.board_language.specs.Offences.{kind_as, kind_with}
 use Rattle.board_language.specs.Reading.{AreSound}
-use Rattle.fill_rules.proofs.Members.{one_of_flat, one_of_map, append_right, flat_one_of}
+use Rattle.board_language.proofs.Members.{one_of_flat, one_of_map, append_right, flat_one_of}
 use Rattle.board_facts.proofs.Passed.{or_front, or_back, IsPassedFootprint, footprint_passed}
 
 -- its three lengths

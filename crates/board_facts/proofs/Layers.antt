@@ -11,7 +11,7 @@ use Rattle.std.proofs.lemmas.Slice.Eq.{bytes_eq-Decides}
 use Rattle.std.proofs.lemmas.Nat.Bits.{bit_at_lowest, bit_at-suc, and_pow}
 use Rattle.sexpr_text.specs.Items.{Item}
 use Rattle.board_text.specs.Layers.{Name, is_among, meant_in, bits, layer_set, layer_number, between_from, layers_between}
-use Rattle.fill_rules.specs.Tasks.{has_layer}
+use Rattle.board_language.specs.Copper.{has_layer}
 use Rattle.board_facts.proofs.Passed.{or_front, no_not}
 
 -- ---- sets of layers

@@ -6,6 +6,7 @@ pub mod OnBoard
 pub mod Tried
 pub mod Tracks
 pub mod Outlines
+pub mod IslandModes
 pub mod Zones
 pub mod Edges
 pub mod Counts

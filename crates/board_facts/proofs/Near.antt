@@ -13,7 +13,7 @@ use Rattle.outline_slab.specs.Rules.{IsInSpan}
 use Rattle.board_text.specs.Fields.{text_at}
 use Rattle.board_text.specs.Numbers.{is_decimal, are_zeros, is_negative, or_zero, length_fault, length_of, length_at, read_or}
 use Rattle.board_text.specs.Items.{point_at}
-use Rattle.board_facts.specs.Facts.{IsPlaceInReach}
+use Rattle.board_language.specs.Facts.{IsPlaceInReach}
 
 zero_near : IsNearZero 500000000 (pos 0)
 zero_near = record { low = omega (arith, ints); high = omega (arith, ints) }

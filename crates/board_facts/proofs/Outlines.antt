@@ -14,8 +14,8 @@ use Rattle.outline_slab.proofs.Halves.{kept}
 use Rattle.board_text.specs.Items.{point_at}
 use Rattle.board_language.specs.Zones.{corner_lists, corners_read, outline_of, corner_in_units}
 use Rattle.board_language.specs.Offences.{is_long_outline}
-use Rattle.fill_rules.proofs.Members.{one_of_map}
-use Rattle.board_facts.specs.Facts.{IsSoundOutline}
+use Rattle.board_language.proofs.Members.{one_of_map}
+use Rattle.board_language.specs.Facts.{IsSoundOutline}
 use Rattle.board_facts.proofs.Near.{point_near, span_near}
 use Rattle.board_facts.proofs.Tried.{all_of_members}
 

@@ -20,10 +20,9 @@ use Rattle.board_language.specs.Pads.{is_read_pad, pad_place, is_far, place_faul
 use Rattle.board_language.specs.Counts.{is_one_too_many}
 use Rattle.board_language.specs.Offences.{pad_is_bad, is_bad_ratio, has_bad_drill, is_bad_connect, pad_kind, kind_as}
 use Rattle.board_language.specs.Reading.{AreSound, pad_from}
-use Rattle.fill_rules.specs.Needs.{pad_hulls}
-use Rattle.fill_rules.specs.Sound.{HasPad}
-use Rattle.fill_rules.proofs.Sound.{centred}
-use Rattle.board_facts.specs.Facts.{IsPlaceInReach, HasOneHull, IsSoundPad}
+use Rattle.board_language.specs.Copper.{pad_hulls, HasPad}
+use Rattle.board_language.proofs.Centres.{centred}
+use Rattle.board_language.specs.Facts.{IsPlaceInReach, HasOneHull, IsSoundPad}
 use Rattle.board_facts.proofs.Layers.{set_below}
 use Rattle.board_facts.proofs.Footprints.{IsFine, footprint_fine}
 use Rattle.board_facts.proofs.Shapes.{size_small, ratio_small, shape_small}

@@ -12,7 +12,7 @@ use Rattle.board_language.specs.declared.offence.OffenceKind.TheVariants as kind
 use Rattle.board_text.specs.Fields.{list_of, has_list}
 use Rattle.board_text.specs.Numbers.{first_of, is_short, whole_fault_at}
 use Rattle.board_text.specs.Layers.{is_among, has_double, is_copper, layers_in, name_of_layer, has_unknown, layers_fault, layer_names_in}
-use Rattle.board_text.specs.Items.{Context, size_of, is_no_size, length_in, net_of, is_unknown_net, has_bad_size, has_bad_length}
+use Rattle.board_text.specs.Items.{Context, size_of, is_no_size, length_in, net_of, is_unknown_net, has_bad_size, has_bad_length, version_of}
 use Rattle.board_language.specs.Tracks.{track_fault, via_fault, track_layer, via_layer}
 use Rattle.board_language.specs.Pads.{is_type, is_shape, pad_fault, has_read_pad, footprint_fault}
 use Rattle.board_language.specs.Zones.{layer_list, thickness_in, corners_fault, zone_fault}
@@ -82,7 +82,7 @@ unfolding board_kind
 board_passed c board e =
     let ks =
     when kinds.NotBoard (not (is_headed c.bytes (codes "kicad_pcb") board))
-    ∷ when kinds.Version (not (is_version c.bytes (list_of c.bytes (codes "version") board)))
+    ∷ when kinds.Version (not (is_version (version_of c.bytes board)))
     ∷ when kinds.MissingPart (not (has_list c.bytes (codes "layers") board))
     ∷ [] in
     no_not (has_list c.bytes (codes "layers") board) (no_test kinds.MissingPart (not (has_list c.bytes (codes "layers") board)) (none_at 2 ks e))

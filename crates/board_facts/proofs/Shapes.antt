@@ -11,7 +11,7 @@ use Rattle.board_text.specs.Numbers.{length_at}
 use Rattle.board_text.specs.Items.{size_of, is_no_length, is_no_size}
 use Rattle.board_language.specs.Pads.{Size, is_shape, is_hole, box_round, circle, rectangle, oval, rounded_by, corner_radius, ratio_in, shape_of, written_size, drilled_size, drill_of, drill_width, drill_height, swapped, turns_in, size_on_board}
 use Rattle.board_language.specs.Offences.{is_bad_ratio, has_bad_drill}
-use Rattle.board_facts.specs.Facts.{IsPlaceInReach, IsSmallShape}
+use Rattle.board_language.specs.Facts.{IsPlaceInReach, IsSmallShape}
 use Rattle.board_facts.proofs.Tracks.{length_read}
 use Rattle.board_facts.proofs.Passed.{or_front, or_back}
 

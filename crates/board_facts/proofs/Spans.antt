@@ -20,7 +20,7 @@ use Rattle.board_text.specs.Items.{Context, span_of, solid_end, tail_of, context
 use Rattle.board_language.specs.Tracks.{track_of, via_of}
 use Rattle.board_language.specs.Zones.{is_read_zone, is_fill, clearance_list, span_or_none, spans_of, zone_of}
 use Rattle.board_language.specs.Reading.{board_of, all_of, track_from, via_from, zone_from}
-use Rattle.fill_rules.proofs.Members.{one_of_flat, one_of_map, append_right}
+use Rattle.board_language.proofs.Members.{one_of_flat, one_of_map, append_right}
 use Rattle.board_facts.specs.Places.{IsListBetween, AreBetween, HasPlaces, IsPlacedZone}
 use Rattle.board_facts.specs.Laws.{PlacesLaw}
 use Rattle.board_facts.proofs.Passed.{no_some, of_some}

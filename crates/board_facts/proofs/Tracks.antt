@@ -13,7 +13,7 @@ use Rattle.board_language.specs.Tracks.{track_layer, via_layer, track_of, via_of
 use Rattle.board_language.specs.Counts.{is_one_too_many}
 use Rattle.board_language.specs.Offences.{is_double_stamp, kind_as}
 use Rattle.board_language.specs.Reading.{track_from, via_from}
-use Rattle.board_facts.specs.Facts.{IsCopperSize, IsSoundTrack, IsSoundVia}
+use Rattle.board_language.specs.Facts.{IsCopperSize, IsSoundTrack, IsSoundVia}
 use Rattle.board_facts.proofs.Near.{point_near}
 use Rattle.board_facts.proofs.Layers.{number_below, between_below}
 use Rattle.board_facts.proofs.Passed.{no_some, of_some, or_front, or_back, IsPassedCopper, IsPassedTrack, track_passed, via_passed}

@@ -12,14 +12,15 @@ use Rattle.board_text.specs.Layers.{meant_in, layer_set}
 use Rattle.board_text.specs.Things.{Placed, Thing, RuleArea, Zone, thing_of}
 use Rattle.board_text.specs.Items.{Context, size_of, is_no_length}
 use Rattle.board_language.specs.Counts.{is_one_too_many}
-use Rattle.board_language.specs.Zones.{layer_list, is_read_zone, is_read_area, clearance_in, thickness_in, gap_in, bridge_in, corners_read, zone_of, area_of}
+use Rattle.board_language.specs.Zones.{layer_list, is_read_zone, is_read_area, clearance_in, thickness_in, gap_in, bridge_in, mode_in, island_area_in, islands_in, corners_read, zone_of, area_of}
 use Rattle.board_language.specs.Offences.{IsOutlineResult, has_outline, zone_kind, area_kind, stamp_kind, is_double_stamp, kind_as}
 use Rattle.board_language.specs.Reading.{zone_from, area_from}
-use Rattle.board_facts.specs.Facts.{IsSoundZone, IsSoundArea}
+use Rattle.board_language.specs.Facts.{IsSoundZone, IsSoundArea}
 use Rattle.board_facts.proofs.Tracks.{length_read}
 use Rattle.board_facts.proofs.Passed.{no_some, of_some, IsPassedOutline, IsPassedZone, zone_passed, area_passed}
 use Rattle.board_facts.proofs.Layers.{set_below, on_layer}
 use Rattle.board_facts.proofs.Outlines.{outline_sound}
+use Rattle.board_facts.proofs.IslandModes.{mode_near, island_area_near}
 use Rattle.board_facts.proofs.Tried.{IsTried}
 
 -- ---- zones
@@ -42,7 +43,7 @@ four false false false true e = absurd (true≢false e)
 
 zone_sized : (c : Context) (zone : Item) (outline : Option OutlineFault) (double many : Bool) → is_read_zone c zone ≡ true → IsPassedZone c zone outline double many
     → IsOutline (corners_read c.bytes zone) → IsSoundZone (length c.copper) (zone_of c zone)
-unfolding zone_of layer_set
+unfolding zone_of layer_set islands_in
 zone_sized c zone outline double many read h o =
     let f = four (is_no_length (clearance_in c.bytes zone)) (is_no_length (thickness_in c.bytes zone)) (is_no_length (gap_in c.bytes zone)) (is_no_length (bridge_in c.bytes zone)) h.lengths in
     record {
@@ -51,6 +52,7 @@ zone_sized c zone outline double many read h o =
       clearance = length_read (clearance_in c.bytes zone) f.first;
       gap = length_read (gap_in c.bytes zone) f.third;
       bridge = length_read (bridge_in c.bytes zone) f.fourth;
+      islands = mode_near (mode_in c.bytes zone) (island_area_in c.bytes zone) (island_area_near c.bytes zone);
       layered = on_layer c.copper (meant_in c.bytes c.copper (layer_list c.bytes zone)) read h.both.known;
       among = set_below c.bytes c.copper (layer_list c.bytes zone);
       outline = outline_sound c.bytes zone o h.both.short;

@@ -3,17 +3,18 @@ use Rattle.std.specs.Prelude.{ℕ, List, length}
 use Rattle.sexpr_text.specs.Items.{Item}
 use Rattle.sexpr_text.specs.Trees.{IsRoot}
 use Rattle.board_language.specs.declared.board.Rules.{Rules}
+use Rattle.board_language.specs.Clearances.{AreSoundRules}
 use Rattle.board_language.specs.Board.{Board}
 use Rattle.board_text.specs.Things.{items_of_board}
 use Rattle.board_language.specs.Reading.{IsAccepted, board_of}
-use Rattle.fill_rules.specs.Sound.{IsSound}
-use Rattle.board_facts.specs.Facts.{IsSoundBoard}
+use Rattle.board_language.specs.Facts.{IsSoundBoard}
 use Rattle.board_facts.specs.Places.{IsPlacedBoard}
 use Rattle.board_facts.specs.Stamps.{HaveOwnStamps}
 
--- the board of a text in which nothing offends has all of it, under whatever rules
+-- the board of a text in which nothing offends has all of it, under whatever rules that are in range
 abbrev pub AcceptedLaw : Type 0
-AcceptedLaw = (bytes : List ℕ) (root : Item) (rules : Rules) → IsAccepted bytes root → IsSoundBoard (board_of bytes root rules)
+AcceptedLaw =
+    (bytes : List ℕ) (root : Item) (rules : Rules) → AreSoundRules rules → IsAccepted bytes root → IsSoundBoard (board_of bytes root rules)
 
 -- its lists stand in the text that spells it
 abbrev pub PlacesLaw : Type 0
@@ -30,8 +31,6 @@ pub record HasFacts (bytes : List ℕ) (root : Item) (b : Board) : Type 0 where
   pub stamps : HaveOwnStamps bytes (items_of_board bytes root)
 
 abbrev pub FactsLaw : Type 0
-FactsLaw = (bytes : List ℕ) (root : Item) (rules : Rules) → IsRoot bytes root → IsAccepted bytes root → HasFacts bytes root (board_of bytes root rules)
-
--- a board with what an accepted one has is sound for the rules of the fill
-abbrev pub SoundBoardLaw : Type 0
-SoundBoardLaw = (b : Board) → IsSoundBoard b → IsSound b
+FactsLaw =
+    (bytes : List ℕ) (root : Item) (rules : Rules) → AreSoundRules rules → IsRoot bytes root → IsAccepted bytes root
+    → HasFacts bytes root (board_of bytes root rules)

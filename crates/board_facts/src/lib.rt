@@ -1,12 +1,13 @@
 //! What every accepted board has, in one place: how many things, how thick and wide they are, how far away they lie, how each
 //! pad stands, which rules outlines keep, and where the lists stand in the text.
-//! The crates above use the records of `specs/` and the laws that the functions here state; nothing here runs.
+//! The record of it is `IsSoundBoard` of `board_language`; where the lists stand, and stamps, are told in `specs/`. The crates
+//! above use the laws that the functions here state; nothing here runs.
 //! Lengths are nanometres; outlines are in units of 2 nm, and shapes of pads in halves of a nanometre.
 #![tactic(auto)]
 
-ghost use Rattle.board_facts.specs.Laws.{AcceptedLaw, PlacesLaw, StampsLaw, FactsLaw, SoundBoardLaw};
+ghost use Rattle.board_facts.specs.Laws.{AcceptedLaw, PlacesLaw, StampsLaw, FactsLaw};
 
-/// The board of a text in which nothing offends is sound, under whatever rules.
+/// The board of a text in which nothing offends is sound, under whatever rules that are in range.
 pub fn accepted_law()
     ensures { AcceptedLaw }
 {}
@@ -25,9 +26,4 @@ pub fn stamps_law()
 /// All of this in one: the facts of the board of an accepted text.
 pub fn facts_law()
     ensures { FactsLaw }
-{}
-
-/// What every accepted board has is all that the rules of the fill rest on.
-pub fn sound_law()
-    ensures { SoundBoardLaw }
 {}

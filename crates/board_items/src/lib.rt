@@ -10,6 +10,7 @@ mod names;
 mod numbers;
 mod points;
 mod root;
+mod seen;
 mod sizes;
 mod stack;
 mod stamps;
@@ -21,7 +22,7 @@ pub use lists::{has_bad_length, has_bad_size, has_short, is_bad_length, lacks};
 pub use names::LayerNames;
 pub use numbers::Numbers;
 pub use points::{has_other_point, has_short_point, points_fault, points_of};
-pub use root::{declared_net, declared_nets, is_unknown_net, known_of, stamp_in};
+pub use root::{declared_net, declared_nets, is_unknown_net, known_of, stamp_in, version_of};
 pub use sizes::{is_no_length, is_no_size, size_of};
 pub use stack::{
     copper_among, copper_names, has_double, is_between, is_layer, lacks_name, layer_fault,

@@ -1,6 +1,6 @@
 // What holds for the whole board: its copper layers and its nets.
 ghost use Rattle.std.specs.Prelude.{◌≡◌, cond, filter_map, option_map, codes, None, IfOk};
-ghost use Rattle.board_text.specs.Items.{context_of, declared_net, declared_nets, is_unknown_net, net_of, stamp_in};
+ghost use Rattle.board_text.specs.Items.{context_of, declared_net, declared_nets, is_unknown_net, net_of, stamp_in, version_of};
 ghost use Rattle.sexpr_text.specs.Items.{is_headed};
 ghost use Rattle.board_items.specs.Known.{context};
 
@@ -24,6 +24,17 @@ pub fn declared_net(alloc: Global, net: &Part<'_>) -> Result<Option<u32>, Memory
     }
 }
 
+/// The version of a board: the whole number in its `version`, or 0 where there is none.
+///
+/// # Errors
+///
+/// Want of memory.
+pub fn version_of(alloc: Global, board: &Part<'_>) -> Result<u32, Memory>
+    ensures { IfOk result (λ version. version ≡ version_of board.now.bytes board.now.item) }
+{
+    board.whole_in(alloc, b"version")
+}
+
 /// The stamp of a track, via or zone, where it has one.
 ///
 /// # Errors
@@ -32,7 +43,7 @@ pub fn declared_net(alloc: Global, net: &Part<'_>) -> Result<Option<u32>, Memory
 pub fn stamp_in(alloc: Global, item: &Part<'_>) -> Result<Option<Vec<u8>>, Memory>
     ensures { IfOk result (λ s. option_map (λ v. v.items) s ≡ stamp_in item.now.bytes item.now.item) }
 {
-    match item.list(b"tstamp") {
+    match item.stamp_list() {
         Some(list) => list.text_at(alloc, 0),
         None => Ok(None),
     }

@@ -8,8 +8,9 @@ ghost use Rattle.board_items.specs.Known.{context};
 
 use crate::layer_lists::bit;
 use crate::layers::is_copper;
+use crate::seen::Seen;
 use crate::{Known, LayerNames};
-use board_text::{Part, has_text};
+use board_text::Part;
 use grid_num::{Memory, NumFault};
 use sexpr_text::NodeKind;
 use std::alloc::Global;
@@ -154,16 +155,29 @@ pub fn names_of_layers(alloc: Global, layers: &[Part<'_>]) -> Result<Vec<Vec<u8>
     Ok(names)
 }
 
-/// Whether a name stands twice.
-pub fn has_double(names: &[Vec<u8>]) -> bool
-    ensures { result ≡ has_double (map (λ t. t.items) names.now) }
+fn copy_of(alloc: Global, name: &[u8]) -> Result<Vec<u8>, Memory>
+    ensures { IfOk result (λ copy. copy.items ≡ name.now) }
 {
-    'each: for place in 0..names.len() {
-        if has_text(&names[place + 1..], names[place].as_slice()) {
-            return true;
+    Ok(name.to_vec(alloc)?)
+}
+
+/// Whether a name stands twice.
+///
+/// # Errors
+///
+/// Want of memory.
+pub fn has_double(alloc: Global, names: &[Vec<u8>]) -> Result<bool, Memory>
+    ensures { IfOk result (λ yes. yes ≡ has_double (map (λ t. t.items) names.now)) }
+{
+    let mut behind = Seen::new(alloc);
+    'each: for step in 0..names.len() {
+        let name = &names[names.len() - 1 - step];
+        let new = behind.put(copy_of(alloc, name.as_slice())?)?;
+        if !new {
+            return Ok(true);
         }
     }
-    false
+    Ok(false)
 }
 
 /// Those of the names that are of copper, in order.

@@ -15,7 +15,7 @@ use Rattle.board_language.specs.declared.offence.OffenceKind.TheVariants as kind
 use Rattle.board_text.specs.Fields.{list_of, has_list, head_begins}
 use Rattle.board_text.specs.Layers.{copper_layers, names_in, is_copper, layers_in, name_of_layer, has_double, layers_fault, layer_names_in}
 use Rattle.board_text.specs.Things.{Placed, Root, OnBoard, InFootprint, Layers, Net, Track, CurvedTrack, Via, Footprint, RuleArea, Zone, Drawing, Pad, FootprintDrawing, FootprintZone, Other, thing_of, items_of_board, with_own, in_footprint, on_board, of_footprint, is_picture}
-use Rattle.board_text.specs.Items.{Context, context_of}
+use Rattle.board_text.specs.Items.{Context, context_of, version_of}
 use Rattle.board_language.specs.Offences.{first_kind, when, number_offence, is_version, is_layers, has_layers, board_kind, layers_kind, kind_with, kind_as}
 use Rattle.board_language.specs.Reading.{AreSound}
 
@@ -146,7 +146,7 @@ has_none o e h = absurd (false≢true (sym (ap is_some e) ∙ h))
 board_front : Context → Item → List (Option OffenceKind)
 board_front c board =
     when kinds.NotBoard (not (is_headed c.bytes (codes "kicad_pcb") board))
-    ∷ when kinds.Version (not (is_version c.bytes (list_of c.bytes (codes "version") board)))
+    ∷ when kinds.Version (not (is_version (version_of c.bytes board)))
     ∷ []
 
 has_one : (c : Context) (board : Item) → board_kind c board ≡ None → (layers : Item) × (list_of c.bytes (codes "layers") board ≡ Some layers)

@@ -3,3 +3,5 @@ pub mod NoneOffends
 pub mod Places
 pub mod OneOffence
 pub mod Few
+pub mod Members
+pub mod Centres

@@ -1,4 +1,7 @@
+pub mod Clearances
 pub mod Board
+pub mod Copper
+pub mod Facts
 pub mod Tracks
 pub mod Pads
 pub mod Zones

@@ -14,10 +14,10 @@ use Rattle.std.specs.Option.{option_or}
 use Rattle.board_language.specs.declared.offence.OffenceKind.{OffenceKind}
 use Rattle.board_language.specs.declared.offence.OffenceKind.TheVariants as kinds
 use Rattle.board_text.specs.Fields.{list_of, list_in, has_list, lacks, head_begins, text_at, says_at, texts_of, passes}
-use Rattle.board_text.specs.Numbers.{is_decimal, is_zero, whole_fault, whole_number, value_at, first_of, whole_fault_at, is_short, has_short, length_at}
+use Rattle.board_text.specs.Numbers.{is_decimal, is_zero, whole_fault, whole_number, first_of, whole_fault_at, is_short, has_short, length_at}
 use Rattle.board_text.specs.Layers.{Name, is_among, has_double, is_copper, layers_in, name_of_layer, layers_fault, layer_names_in, has_unknown, is_edge_name, is_drawn_on, layer_names}
 use Rattle.board_text.specs.Things.{Placed, Thing, Board, Layers, Net, Track, CurvedTrack, Via, Footprint, RuleArea, Zone, Drawing, Pad, FootprintDrawing, FootprintZone, Other, thing_of}
-use Rattle.board_text.specs.Items.{Context, size_of, is_no_length, is_no_size, is_bad_length, has_bad_length, has_bad_size, length_in, whole_in, net_of, declared_net, has_number, is_unknown_net, stamp_in}
+use Rattle.board_text.specs.Items.{Context, size_of, is_no_length, is_no_size, is_bad_length, has_bad_length, has_bad_size, length_in, whole_in, net_of, declared_net, has_number, is_unknown_net, stamp_in, version_of}
 use Rattle.board_language.specs.Tracks.{track_layer, via_layer, track_fault, via_fault}
 use Rattle.board_language.specs.Pads.{is_type, is_shape, is_read_pad, has_read_pad, turns_at, drill_of, drill_width, drill_height, ratio_in, bridge_list, pad_fault, footprint_fault, is_hole}
 use Rattle.board_language.specs.Zones as zones
@@ -39,26 +39,16 @@ first_kind (kind ∷ more) = option_or kind (first_kind more)
 
 -- ---- the board
 
--- a text that may be absent spells a whole number
-abbrev pub spells_whole : Option (List ℕ) → Bool
-spells_whole None = false
-spells_whole (Some text) = is_none (whole_fault text)
-
--- a version of KiCad 6 or 7
-abbrev pub is_version_number : ℕ → Bool
-is_version_number n = nat_lt 20211013 n && nat_lt n 20221019
-
--- a `version` has such a number
-abbrev pub is_version : List ℕ → Option Item → Bool
-is_version bytes list =
-    passes (λ version. spells_whole (text_at bytes 0 version) && is_version_number (value_at whole_number bytes 0 0 (Some version))) list
+-- The versions of texts that are read: from 20211014 to 20241231. The upper end is chosen here, and is that of no editor.
+abbrev pub is_version : ℕ → Bool
+is_version n = nat_lt 20211013 n && nat_lt n 20241232
 
 -- the first offence of the board itself
 unfoldable pub board_kind : Context → Item → Option OffenceKind
 board_kind c board =
     first_kind (
     when kinds.NotBoard (not (is_headed c.bytes (codes "kicad_pcb") board))
-    ∷ when kinds.Version (not (is_version c.bytes (list_of c.bytes (codes "version") board)))
+    ∷ when kinds.Version (not (is_version (version_of c.bytes board)))
     ∷ when kinds.MissingPart (not (has_list c.bytes (codes "layers") board))
     ∷ [])
 
@@ -339,12 +329,12 @@ area_kinds c zone outline double many =
 unfoldable pub area_kind : Context → Item → Option OutlineFault → Bool → Bool → Option OffenceKind
 area_kind c zone outline double many = first_kind (area_kinds c zone outline double many)
 
--- an island mode other than 0 and 1, where it can be read
+-- an island mode other than 0, 1 and 2, where it can be read
 abbrev pub is_other_mode : Option (List ℕ) → Bool
 is_other_mode None = false
-is_other_mode (Some text) = is_none (whole_fault text) && nat_lt 1 (whole_number text)
+is_other_mode (Some text) = is_none (whole_fault text) && nat_lt 2 (whole_number text)
 
--- the zone removes its islands otherwise than always or never
+-- the zone removes its islands otherwise than always, never or below an area
 abbrev pub has_other_mode : List ℕ → Item → Bool
 has_other_mode bytes zone = passes (λ list. is_other_mode (text_at bytes 0 list)) (zones.mode_list bytes zone)
 
@@ -353,7 +343,7 @@ abbrev pub zone_lacks : List ℕ → Item → Bool
 zone_lacks bytes zone =
     outline_lacks bytes zone
     || (has_short bytes 1 (codes "net" ∷ codes "priority" ∷ codes "min_thickness" ∷ []) zone
-    || list_any (is_short 1) (zones.clearance_list bytes zone ∷ zones.gap_list bytes zone ∷ zones.bridge_list bytes zone ∷ zones.mode_list bytes zone ∷ []))
+    || list_any (is_short 1) (zones.clearance_list bytes zone ∷ zones.gap_list bytes zone ∷ zones.bridge_list bytes zone ∷ zones.mode_list bytes zone ∷ zones.island_area_list bytes zone ∷ []))
 
 -- a length of a zone is out of its range
 abbrev pub zone_is_bad : List ℕ → Item → Bool

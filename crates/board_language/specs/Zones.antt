@@ -3,7 +3,7 @@
 --     (zone (net 1) (net_name "GND") (layer "F.Cu") (tstamp ..) (hatch edge 0.5) (priority 2)
 --       (connect_pads thru_hole_only (clearance 0.2))
 --       (min_thickness 0.25)
---       (fill yes (thermal_gap 0.5) (thermal_bridge_width 0.5) (island_removal_mode 1))
+--       (fill yes (thermal_gap 0.5) (thermal_bridge_width 0.5) (island_removal_mode 2) (island_area_min 10))
 --       (polygon (pts (xy 0 0) (xy 10 0) (xy 10 10) (xy 0 10)))
 --       (filled_polygon (layer "F.Cu") (pts ..)))
 --
@@ -18,8 +18,10 @@ use Rattle.sexpr_text.specs.declared.Span.{Span}
 use Rattle.board_text.specs.Lists.{lists_of}
 use Rattle.board_language.specs.declared.Join.{Join}
 use Rattle.board_language.specs.declared.Join.TheVariants.{Thermal, Solid, Apart, PlatedThermal}
+use Rattle.board_language.specs.declared.IslandMode.{IslandMode}
+use Rattle.board_language.specs.declared.IslandMode.TheVariants.{Remove, Keep, Below}
 use Rattle.board_text.specs.Fields.{list_of, list_in, says_at, texts_of, passes}
-use Rattle.board_text.specs.Numbers.{first_of, point_fault, length_fault_at, whole_fault_at, value_at, length_of, whole_number}
+use Rattle.board_text.specs.Numbers.{first_of, point_fault, length_fault_at, area_fault_at, whole_fault_at, value_at, length_of, area_number, whole_number}
 use Rattle.board_text.specs.Layers.{has_copper, layer_set}
 use Rattle.board_language.specs.declared.board.Zone.{Zone}
 use Rattle.board_language.specs.declared.board.ZoneSpans.{ZoneSpans}
@@ -113,6 +115,22 @@ bridge_in bytes zone = length_or (pos 500000) bytes (bridge_list bytes zone)
 abbrev pub mode_in : List ℕ → Item → ℕ
 mode_in bytes zone = value_at whole_number bytes 0 0 (mode_list bytes zone)
 
+-- where the area of the least island that stays is given; it is read only where islands are removed below an area
+abbrev pub island_area_list : List ℕ → Item → Option Item
+island_area_list bytes zone = if mode_in bytes zone == 2 then list_in bytes (codes "fill") (codes "island_area_min") zone else None
+
+-- that area, in millionths of a square millimetre; 10 square millimetres where none is given
+abbrev pub island_area_in : List ℕ → Item → ℕ
+island_area_in bytes zone = value_at area_number bytes 0 10000000 (island_area_list bytes zone)
+
+-- which islands stay, by the mode and the area
+abbrev pub islands_by : ℕ → ℕ → IslandMode
+islands_by mode area = if mode == 0 then Remove else (if mode == 1 then Keep else Below area)
+
+-- which islands stay; none where nothing is said
+unfoldable pub islands_in : List ℕ → Item → IslandMode
+islands_in bytes zone = islands_by (mode_in bytes zone) (island_area_in bytes zone)
+
 -- the words of `connect_pads` that say how pads are joined
 abbrev pub join_by_word : List ℕ → Option Join
 join_by_word text =
@@ -165,7 +183,7 @@ zone_of c zone =
       thickness = size_of (thickness_in c.bytes zone);
       gap = size_of (gap_in c.bytes zone);
       bridge = size_of (bridge_in c.bytes zone);
-      keep_islands = mode_in c.bytes zone == 1;
+      islands = islands_in c.bytes zone;
       spans = spans_of c.bytes zone;
       span = span_of zone;
       line = line_of c.bytes zone.from;
@@ -192,5 +210,6 @@ zone_fault bytes zone =
     ∷ length_fault_at bytes 0 (gap_list bytes zone)
     ∷ length_fault_at bytes 0 (bridge_list bytes zone)
     ∷ whole_fault_at bytes 0 (mode_list bytes zone)
+    ∷ area_fault_at bytes 0 (island_area_list bytes zone)
     ∷ corners_fault bytes zone
     ∷ [])

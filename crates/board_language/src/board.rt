@@ -1,7 +1,8 @@
 // What is read of a board. Lengths and places are in nanometres; x grows to the right and y downward.
 ghost use Rattle.std.specs.Prelude.{◌≡◌};
+ghost use Rattle.board_language.specs.Clearances.{AreSoundRules};
 
-use crate::{Join, PadKind};
+use crate::{IslandMode, Join, PadKind};
 use copper_shape::Shape;
 use grid_num::Point;
 use outline_slab::Outline;
@@ -107,7 +108,7 @@ pub struct Zone {
     /// The gap and the width of the bridges of thermal reliefs.
     pub gap: u32,
     pub bridge: u32,
-    pub keep_islands: bool,
+    pub islands: IslandMode,
     pub spans: ZoneSpans,
     pub span: Span,
     pub line: u64,
@@ -120,9 +121,30 @@ pub struct Area {
     pub layers: u32,
 }
 
-/// The clearance that holds everywhere, and the one to the board's edge: 2 nm to 100 mm each.
+/// The clearance that holds everywhere, and the one to the board's edge: 2 nm to 100 mm each. Contracts see the record of both.
 #[derive(Clone, Copy, PartialEq, Eq, Debug)]
 pub struct Rules {
     pub floor: u32,
     pub edge: u32,
+}
+
+impl Model for Rules {
+    ghost use Rattle.board_language.specs.Clearances.{Clearances, AreSoundRules};
+
+    ghost Value = { Clearances };
+
+    ghost view = { λ r. record { floor = r.floor; edge = r.edge } };
+
+    ghost invariant = { λ r. AreSoundRules (record { floor = r.floor; edge = r.edge }) };
+
+    ghost inverse = { λ v. record { floor = v.floor; edge = v.edge } };
+}
+
+impl Rules {
+    /// Both are from 2 nm to 100 mm, whatever the board. It only says so, for callers to know.
+    pub fn sound(&self)
+        ensures { AreSoundRules self.now }
+    {
+        let _ = &self.floor;
+    }
 }

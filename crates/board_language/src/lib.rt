@@ -40,6 +40,17 @@ pub enum Join {
     PlatedThermal,
 }
 
+/// Which islands of a zone stay: components of its copper that nothing anchors.
+#[derive(Clone, Copy, PartialEq, Eq, Debug)]
+pub enum IslandMode {
+    /// None: islands go.
+    Remove,
+    /// All of them.
+    Keep,
+    /// Those whose area isn't below so many millionths of a square millimetre, each of a million square nanometres.
+    Below(u64),
+}
+
 /// What kind of edge a drawing is.
 #[derive(Clone, Copy, PartialEq, Eq, Debug)]
 pub enum EdgeForm {

@@ -7,7 +7,7 @@ use outline_slab::OutlineFault;
 pub enum OffenceKind {
     /// The root isn't a `kicad_pcb`.
     NotBoard,
-    /// The version isn't a whole number from 20211014 to 20221018.
+    /// The version isn't a whole number from 20211014 to 20241231.
     Version,
     /// A track is an arc.
     CurvedTrack,
@@ -25,7 +25,7 @@ pub enum OffenceKind {
     HatchFill,
     /// A zone's corners are smoothed.
     Smoothing,
-    /// A zone removes its islands by their area.
+    /// A zone's island mode is none of 0, 1 and 2.
     IslandArea,
     /// A zone has several outlines.
     ManyOutlines,

@@ -3,6 +3,7 @@ ghost use Rattle.std.specs.Prelude.{◌≡◌, IfOk, IfErr};
 ghost use Rattle.sexpr_text.specs.Items.{Item};
 ghost use Rattle.sexpr_text.specs.Trees.{IsTreeOf, IsTreeAt};
 ghost use Rattle.board_language.specs.Reading.{IsAccepted};
+ghost use Rattle.board_language.specs.Facts.{IsSoundBoard};
 ghost use Rattle.board_items.specs.Stamps.{stamped};
 ghost use Rattle.board_model.specs.Whole.{whole_board, IsRefusal};
 
@@ -10,16 +11,18 @@ use crate::error::BoardError;
 use crate::items::read_all;
 use crate::names::names_of;
 use crate::reading::ReadSoFar;
-use board_items::{Numbers, known_of};
+use board_items::{Numbers, known_of, version_of};
 use board_language::{Area, Edge, Name, Pad, Rules, Stamped, Track, Via, Zone};
 use board_text::Part;
 use sexpr_text::Tree;
 use std::alloc::Global;
 use std::marker::Model;
 
-/// A board in which nothing offends. Contracts see the board that its text spells, with the stamps of its things.
+/// A board in which nothing offends. Contracts see the board that its text spells, with its version and the
+/// stamps of its things; `sound` says what every such board has.
 #[derive(Drop)]
 pub struct Board {
+    version: u32,
     layers: Vec<Name>,
     nets: Numbers,
     found: ReadSoFar,
@@ -27,24 +30,14 @@ pub struct Board {
 }
 
 impl Model for Board {
-    ghost use Rattle.board_model.specs.Whole.{Whole};
+    ghost use Rattle.board_language.specs.Facts.{IsSoundBoard};
+    ghost use Rattle.board_model.specs.Whole.{Whole, whole_from};
 
     ghost Value = { Whole };
 
-    ghost view = { λ b. record {
-      board = record {
-        layers = b.layers.items;
-        nets = b.nets;
-        tracks = b.found.tracks;
-        vias = b.found.vias;
-        pads = b.found.pads;
-        zones = b.found.zones;
-        areas = b.found.areas;
-        edges = b.found.edges;
-        rules = b.rules;
-      };
-      stamps = b.found.stamps;
-    } };
+    ghost view = { λ b. whole_from b.version b.layers.items b.nets b.found b.rules };
+
+    ghost invariant = { λ b. IsSoundBoard (whole_from b.version b.layers.items b.nets b.found b.rules).board };
 }
 
 impl Board {
@@ -60,15 +53,32 @@ impl Board {
         ensures refused { IfErr result (λ e. (root : Item) → IsTreeAt bytes.now tree.now root → IsRefusal bytes.now root e) }
     {
         let root = Part::root(tree, bytes);
+        let version = version_of(alloc, &root)?;
         let known = known_of(alloc, &root)?;
         let found = read_all(alloc, &known, &root)?;
         let layers = names_of(alloc, known.copper.names())?;
+        rules.sound();
         Ok(Board {
+            version,
             layers,
             nets: known.nets,
             found,
             rules,
         })
+    }
+
+    /// The board has all that every accepted one has. It only says so, for callers to know.
+    pub fn sound(&self)
+        ensures { IsSoundBoard self.now.board }
+    {
+        let _ = &self.rules;
+    }
+
+    /// The version of the board's text.
+    pub fn version(&self) -> u32
+        ensures { result ≡ self.now.version }
+    {
+        self.version
     }
 
     /// The copper layers, in the board's order: a layer's number is its place.

@@ -16,7 +16,7 @@ use crate::reading::ReadSoFar;
 use board_edges::footprint_drawing_kind;
 use board_items::{Known, Own, Thing, thing_in_footprint, thing_on_board};
 use board_language::{Offence, OffenceKind};
-use board_pads::footprint_kind;
+use board_pads::{ReadFootprint, footprint_kind};
 use board_text::Part;
 use board_tracks::{board_kind, layers_kind};
 use grid_num::Memory;
@@ -87,7 +87,7 @@ impl ReadSoFar {
         &mut self,
         alloc: Global,
         known: &Known,
-        footprint: &Part<'_>,
+        footprint: &ReadFootprint<'_, '_>,
         item: &Part<'_>,
         line: u64,
     ) -> Result<Option<OffenceKind>, Memory>
@@ -127,7 +127,7 @@ impl ReadSoFar {
         alloc: Global,
         known: &Known,
         lines: &mut Lines<'_>,
-        footprint: &Part<'_>,
+        footprint: &ReadFootprint<'_, '_>,
         item: &Part<'_>,
     ) -> Result<(), BoardError>
         requires text { lines.old ≡ item.now.bytes }
@@ -142,6 +142,26 @@ impl ReadSoFar {
     }
 
     /// Reads the lists of a footprint.
+    fn read_all_own(
+        &mut self,
+        alloc: Global,
+        known: &Known,
+        lines: &mut Lines<'_>,
+        footprint: &ReadFootprint<'_, '_>,
+    ) -> Result<(), BoardError>
+        requires text { lines.old ≡ footprint.now.bytes }
+        ensures text { lines.new ≡ lines.old }
+        ensures ok { IfOk result (λ _. AreRead (context footprint.now.bytes known.now) self.old (map (in_the_footprint footprint.now.item) (lists_of footprint.now.item)) self.new) }
+        ensures err { IfErr result (IsStop (context footprint.now.bytes known.now) self.old (map (in_the_footprint footprint.now.item) (lists_of footprint.now.item))) }
+    {
+        let lists = footprint.lists(alloc)?;
+        'each: for item in &lists {
+            self.read_own(alloc, known, lines, footprint, item)?;
+        }
+        Ok(())
+    }
+
+    /// Reads the lists of a footprint: what it says for its pads is read first, and once.
     fn read_footprint(
         &mut self,
         alloc: Global,
@@ -154,11 +174,8 @@ impl ReadSoFar {
         ensures ok { IfOk result (λ _. AreRead (context footprint.now.bytes known.now) self.old (map (in_the_footprint footprint.now.item) (lists_of footprint.now.item)) self.new) }
         ensures err { IfErr result (IsStop (context footprint.now.bytes known.now) self.old (map (in_the_footprint footprint.now.item) (lists_of footprint.now.item))) }
     {
-        let lists = footprint.lists(alloc)?;
-        'each: for item in &lists {
-            self.read_own(alloc, known, lines, footprint, item)?;
-        }
-        Ok(())
+        let read = ReadFootprint::of(alloc, footprint)?;
+        self.read_all_own(alloc, known, lines, &read)
     }
 
     /// Reads a list of the board and, where it is a footprint, the lists in it.

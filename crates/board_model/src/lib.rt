@@ -16,8 +16,8 @@ mod zones;
 
 pub use board::Board;
 pub use board_language::{
-    Area, Edge, FillSpans, Join, Name, Offence, OffenceKind, Pad, PadKind, Rules, Stamped, Track,
-    Via, Zone, ZoneSpans, one_offence_law,
+    Area, Edge, FillSpans, IslandMode, Join, Name, Offence, OffenceKind, Pad, PadKind, Rules,
+    Stamped, Track, Via, Zone, ZoneSpans, one_offence_law,
 };
 pub use error::BoardError;
 pub use laws::stamp_law;

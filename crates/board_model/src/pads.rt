@@ -10,7 +10,7 @@ ghost use Rattle.board_model.specs.Steps.{kind_by, after_as, put, kept};
 use crate::reading::{ReadSoFar, has_few};
 use board_items::Known;
 use board_language::{OffenceKind, Pad};
-use board_pads::{is_read_pad, pad_kind, pad_of};
+use board_pads::{ReadFootprint, is_read_pad, pad_kind, pad_of};
 use board_text::Part;
 use grid_num::Memory;
 use std::alloc::Global;
@@ -19,7 +19,7 @@ use std::alloc::Global;
 fn pad_kept(
     alloc: Global,
     known: &Known,
-    footprint: &Part<'_>,
+    footprint: &ReadFootprint<'_, '_>,
     pad: &Part<'_>,
     line: u64,
 ) -> Result<Option<Pad>, Memory>
@@ -57,7 +57,7 @@ impl ReadSoFar {
         &mut self,
         alloc: Global,
         known: &Known,
-        footprint: &Part<'_>,
+        footprint: &ReadFootprint<'_, '_>,
         pad: &Part<'_>,
         line: u64,
     ) -> Result<Option<OffenceKind>, Memory>

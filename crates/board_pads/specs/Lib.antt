@@ -1,3 +1,4 @@
 pub mod Ratios
 pub mod Drills
 pub mod Ranges
+pub mod Given

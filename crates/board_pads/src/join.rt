@@ -7,6 +7,7 @@ ghost use Rattle.board_text.specs.Numbers.{length_at, value_at, whole_number};
 ghost use Rattle.board_language.specs.Pads.{bridge_list, join_by_number, own_join, own_length, some_length};
 
 use crate::bridge::bridge_width;
+use crate::given::ReadFootprint;
 use board_items::size_of;
 use board_language::Join;
 use board_text::Part;
@@ -22,7 +23,12 @@ fn some_length(nm: i64) -> Option<u32>
     if size == 0 { None } else { Some(size) }
 }
 
-fn own_length(alloc: Global, item: &Part<'_>, name: &[u8]) -> Result<Option<u32>, Memory>
+/// The length that an item gives, where it is above 0.
+///
+/// # Errors
+///
+/// Want of memory.
+pub fn own_length(alloc: Global, item: &Part<'_>, name: &[u8]) -> Result<Option<u32>, Memory>
     ensures { IfOk result (λ n. n ≡ own_length item.now.bytes name.now item.now.item) }
 {
     let length = item.length_in(alloc, name)?;
@@ -40,7 +46,12 @@ fn join_by_number(number: u32) -> Join
     }
 }
 
-fn own_join(alloc: Global, item: &Part<'_>) -> Result<Option<Join>, Memory>
+/// What an item says of how its pads are joined.
+///
+/// # Errors
+///
+/// Want of memory.
+pub fn own_join(alloc: Global, item: &Part<'_>) -> Result<Option<Join>, Memory>
     ensures { IfOk result (λ j. j ≡ own_join item.now.bytes item.now.item) }
 {
     match item.list(b"zone_connect") {
@@ -62,22 +73,37 @@ fn length_or(own: Option<u32>, other: Option<u32>) -> Option<u32>
     }
 }
 
-/// The length that a pad gives, or its footprint.
+/// The clearance that a pad gives, or its footprint; 0 where neither does.
 ///
 /// # Errors
 ///
 /// Want of memory.
-pub fn length_of(
+pub fn clearance_of(
     alloc: Global,
-    footprint: &Part<'_>,
+    footprint: &ReadFootprint<'_, '_>,
     pad: &Part<'_>,
-    name: &[u8],
-) -> Result<Option<u32>, Memory>
-    ensures { IfOk result (λ n. n ≡ option_or (own_length pad.now.bytes name.now pad.now.item) (own_length footprint.now.bytes name.now footprint.now.item)) }
+) -> Result<u32, Memory>
+    ensures { IfOk result (λ n. n ≡ unwrap_or (option_or (own_length pad.now.bytes (codes "clearance") pad.now.item) (own_length footprint.now.bytes (codes "clearance") footprint.now.item)) 0) }
 {
-    let own = own_length(alloc, pad, name)?;
-    let other = own_length(alloc, footprint, name)?;
-    Ok(length_or(own, other))
+    let own = own_length(alloc, pad, b"clearance")?;
+    let length = length_or(own, footprint.clearance());
+    Ok(length.unwrap_or(0))
+}
+
+/// The gap of thermal reliefs that a pad gives, or its footprint.
+///
+/// # Errors
+///
+/// Want of memory.
+pub fn gap_of(
+    alloc: Global,
+    footprint: &ReadFootprint<'_, '_>,
+    pad: &Part<'_>,
+) -> Result<Option<u32>, Memory>
+    ensures { IfOk result (λ n. n ≡ option_or (own_length pad.now.bytes (codes "thermal_gap") pad.now.item) (own_length footprint.now.bytes (codes "thermal_gap") footprint.now.item)) }
+{
+    let own = own_length(alloc, pad, b"thermal_gap")?;
+    Ok(length_or(own, footprint.gap()))
 }
 
 /// The width of bridges that a pad gives, or its footprint.
@@ -85,12 +111,15 @@ pub fn length_of(
 /// # Errors
 ///
 /// Want of memory.
-pub fn bridge_of(alloc: Global, footprint: &Part<'_>, pad: &Part<'_>) -> Result<Option<u32>, Memory>
+pub fn bridge_of(
+    alloc: Global,
+    footprint: &ReadFootprint<'_, '_>,
+    pad: &Part<'_>,
+) -> Result<Option<u32>, Memory>
     ensures { IfOk result (λ n. n ≡ option_or (some_length (length_at pad.now.bytes 0 (bridge_list pad.now.bytes pad.now.item))) (own_length footprint.now.bytes (codes "thermal_width") footprint.now.item)) }
 {
     let own = bridge_width(alloc, pad)?;
-    let other = own_length(alloc, footprint, b"thermal_width")?;
-    Ok(length_or(some_length(own), other))
+    Ok(length_or(some_length(own), footprint.bridge()))
 }
 
 /// How a pad is joined, by its own word or its footprint's.
@@ -98,12 +127,16 @@ pub fn bridge_of(alloc: Global, footprint: &Part<'_>, pad: &Part<'_>) -> Result<
 /// # Errors
 ///
 /// Want of memory.
-pub fn join_of(alloc: Global, footprint: &Part<'_>, pad: &Part<'_>) -> Result<Option<Join>, Memory>
+pub fn join_of(
+    alloc: Global,
+    footprint: &ReadFootprint<'_, '_>,
+    pad: &Part<'_>,
+) -> Result<Option<Join>, Memory>
     ensures { IfOk result (λ j. j ≡ option_or (own_join pad.now.bytes pad.now.item) (own_join footprint.now.bytes footprint.now.item)) }
 {
     let own = own_join(alloc, pad)?;
     if own.is_some() {
         return Ok(own);
     }
-    own_join(alloc, footprint)
+    Ok(footprint.join())
 }

@@ -14,6 +14,7 @@ use crate::bridge::{bridge_fault, is_bad_bridge, is_short_bridge};
 use crate::drill::{drill_fault, has_bad_drill};
 use crate::footprint::is_bad_connect;
 use crate::form::{has_shape, has_type, is_chamfered, is_off_hole};
+use crate::given::ReadFootprint;
 use crate::place::place_fault;
 use crate::ratio::{ratio_fault_in, ratio_in};
 use crate::size::size_at;
@@ -33,7 +34,7 @@ use std::alloc::Global;
 #[tactic(auto, unfolding(board_language::specs::Pads::pad_fault))]
 fn pad_fault(
     alloc: Global,
-    footprint: &Part<'_>,
+    footprint: &ReadFootprint<'_, '_>,
     pad: &Part<'_>,
 ) -> Result<Option<NumFault>, Memory>
     requires same { footprint.now.bytes ≡ pad.now.bytes }
@@ -137,7 +138,7 @@ fn is_bad_shape(alloc: Global, pad: &Part<'_>) -> Result<bool, Memory>
 pub fn pad_kind(
     alloc: Global,
     known: &Known,
-    footprint: &Part<'_>,
+    footprint: &ReadFootprint<'_, '_>,
     pad: &Part<'_>,
     many: bool,
 ) -> Result<Option<OffenceKind>, Memory>

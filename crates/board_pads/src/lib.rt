@@ -9,6 +9,7 @@ mod decimal;
 mod drill;
 mod footprint;
 mod form;
+mod given;
 mod join;
 mod kind;
 mod pad;
@@ -19,6 +20,7 @@ mod shape;
 mod size;
 
 pub use footprint::footprint_kind;
+pub use given::ReadFootprint;
 pub use kind::pad_kind;
 pub use pad::pad_of;
 pub use read::{has_read_pad, is_read_pad};

@@ -14,7 +14,8 @@ ghost use Rattle.board_items.specs.Known.{context};
 ghost use Rattle.board_pads.specs.Ranges.{IsInRanges};
 
 use crate::form::kind_of;
-use crate::join::{bridge_of, join_of, length_of};
+use crate::given::ReadFootprint;
+use crate::join::{bridge_of, clearance_of, gap_of, join_of};
 use crate::place::pad_place;
 use crate::ratio::ratio_in;
 use crate::shape::shape_of;
@@ -66,13 +67,6 @@ fn copper_at(alloc: Global, pad: &Part<'_>, at: Point) -> Result<Shape, Memory>
     Ok(shape)
 }
 
-fn clearance_of(alloc: Global, footprint: &Part<'_>, pad: &Part<'_>) -> Result<u32, Memory>
-    ensures { IfOk result (λ n. n ≡ unwrap_or (option_or (own_length pad.now.bytes (codes "clearance") pad.now.item) (own_length footprint.now.bytes (codes "clearance") footprint.now.item)) 0) }
-{
-    let length = length_of(alloc, footprint, pad, b"clearance")?;
-    Ok(length.unwrap_or(0))
-}
-
 /// The pad that is read of an item on this line, in a footprint of the same text, of a board with at most 32 copper
 /// layers. The pad doesn't offend. Its core holds its place.
 ///
@@ -83,7 +77,7 @@ fn clearance_of(alloc: Global, footprint: &Part<'_>, pad: &Part<'_>) -> Result<u
 pub fn pad_of(
     alloc: Global,
     known: &Known,
-    footprint: &Part<'_>,
+    footprint: &ReadFootprint<'_, '_>,
     pad: &Part<'_>,
     line: u64,
 ) -> Result<Pad, Memory>
@@ -104,7 +98,7 @@ pub fn pad_of(
         kind: kind_of(alloc, pad)?,
         clearance: clearance_of(alloc, footprint, pad)?,
         join: join_of(alloc, footprint, pad)?,
-        gap: length_of(alloc, footprint, pad, b"thermal_gap")?,
+        gap: gap_of(alloc, footprint, pad)?,
         bridge: bridge_of(alloc, footprint, pad)?,
         line,
     })

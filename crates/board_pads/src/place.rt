@@ -5,7 +5,8 @@ ghost use Rattle.grid_num.specs.declared.read.NumFault.TheVariants.{OutOfRange};
 ghost use Rattle.plane.specs.Narrow.{IsNearZero};
 ghost use Rattle.board_language.specs.Pads.{is_far, pad_place, place_fault, turned_by};
 
-use crate::angle::{turned_by, turns_in};
+use crate::angle::turned_by;
+use crate::given::ReadFootprint;
 use board_text::Part;
 use grid_num::{Memory, NumFault, Point};
 use std::alloc::Global;
@@ -31,16 +32,19 @@ fn moved(base: Point, own: Point) -> Point
 /// # Errors
 ///
 /// Want of memory.
-
-pub fn pad_place(alloc: Global, footprint: &Part<'_>, pad: &Part<'_>) -> Result<Point, Memory>
+pub fn pad_place(
+    alloc: Global,
+    footprint: &ReadFootprint<'_, '_>,
+    pad: &Part<'_>,
+) -> Result<Point, Memory>
     requires same { footprint.now.bytes ≡ pad.now.bytes }
     ensures value { IfOk result (λ p. p ≡ pad_place pad.now.bytes footprint.now.item pad.now.item) }
     ensures x { IfOk result (λ p. IsNearZero 1000000000 p.x) }
     ensures y { IfOk result (λ p. IsNearZero 1000000000 p.y) }
 {
-    let base = footprint.point_in(alloc, b"at")?;
-    let turns = turns_in(alloc, footprint)?;
     let at = pad.point_in(alloc, b"at")?;
+    let base = footprint.at();
+    let turns = footprint.turns();
     let own = turned_by(turns, at);
     let place = moved(base, own);
     Ok(place)
@@ -59,7 +63,7 @@ fn is_far(nm: i64) -> bool
 /// Want of memory.
 pub fn place_fault(
     alloc: Global,
-    footprint: &Part<'_>,
+    footprint: &ReadFootprint<'_, '_>,
     pad: &Part<'_>,
 ) -> Result<Option<NumFault>, Memory>
     requires same { footprint.now.bytes ≡ pad.now.bytes }

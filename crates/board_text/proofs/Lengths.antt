@@ -69,25 +69,25 @@ none_spelt text h = by_cases (is_decimal text) refl
         (parts_spell text (digits_from (fraction_of text) p.0) (some_from (length (whole_of text)) (length (fraction_of text)) p.1)))
 
 -- no digit past the sixth place is another than 0
-fine_of : (text : List ℕ) (n : Bool) (w f : List ℕ) → IsSpelling text n w f → IsWholeNm f → are_zeros (drop 6 (fraction_of text)) ≡ true
+pub fine_of : (text : List ℕ) (n : Bool) (w f : List ℕ) → IsSpelling text n w f → IsWholeNm f → are_zeros (drop 6 (fraction_of text)) ≡ true
 fine_of text n w f s h = zeros_pass (drop 6 (fraction_of text)) (subst IsWholeNm (parts_are text n w f s).fraction_is h)
 
-not_fine : (text : List ℕ) (n : Bool) (w f : List ℕ) → IsSpelling text n w f → (IsWholeNm f → ⊥) → are_zeros (drop 6 (fraction_of text)) ≡ false
+pub not_fine : (text : List ℕ) (n : Bool) (w f : List ℕ) → IsSpelling text n w f → (IsWholeNm f → ⊥) → are_zeros (drop 6 (fraction_of text)) ≡ false
 not_fine text n w f s h = by_cases (are_zeros (drop 6 (fraction_of text))) refl
   where
     by_cases : (b : Bool) → are_zeros (drop 6 (fraction_of text)) ≡ b → b ≡ false
     by_cases false e = refl
     by_cases true e = absurd (h (subst IsWholeNm (sym (parts_are text n w f s).fraction_is) (zeros_from (drop 6 (fraction_of text)) e)))
 
-size_is : (text : List ℕ) (n : Bool) (w f : List ℕ) → IsSpelling text n w f → nanometres w f ≡ nanometres (whole_of text) (fraction_of text)
+pub size_is : (text : List ℕ) (n : Bool) (w f : List ℕ) → IsSpelling text n w f → nanometres w f ≡ nanometres (whole_of text) (fraction_of text)
 size_is text n w f s =
     let p : AreParts text n w f = parts_are text n w f s in
     ap (λ x. nanometres x f) p.whole_is ∙ ap (nanometres (whole_of text)) p.fraction_is
 
-lt_of : (a b : ℕ) → a < b → nat_lt a b ≡ true
+pub lt_of : (a b : ℕ) → a < b → nat_lt a b ≡ true
 lt_of a b h = grind (arith, nat_tests)
 
-not_lt_of : (a b : ℕ) → b ≤ a → nat_lt a b ≡ false
+pub not_lt_of : (a b : ℕ) → b ≤ a → nat_lt a b ≡ false
 not_lt_of a b h = grind (arith, nat_tests)
 
 pub length_reads : (text : List ℕ) (nm : ℤ) → IsLength text nm → length_fault text ≡ None

@@ -1,5 +1,5 @@
 -- Walking over the items of a list by their places.
-use Rattle.std.proofs.Common.{◌≡◌, ℕ, zero, suc, ◌+◌, ◌-◌, ◌<◌, ◌≤◌, Bool, true, false, ◌||◌, List, [], ◌∷◌, ◌++◌, length, map, drop, get_or, slice_get, filter, refl, sym, ap, ◌∙◌, arith, append_assoc, append-nil, Option, Some, None, option_map, is_some, filter_map}
+use Rattle.std.proofs.Common.{◌≡◌, ℕ, zero, suc, ◌+◌, ◌-◌, ◌<◌, ◌≤◌, Bool, true, false, ◌||◌, List, [], ◌∷◌, ◌++◌, length, map, drop, get_or, slice_get, filter, find, refl, sym, ap, ◌∙◌, arith, append_assoc, append-nil, Option, Some, None, option_map, is_some, filter_map}
 use Rattle.std.proofs.lemmas.List.{drop_all, map-append}
 use Rattle.std.specs.List.{cons_option, list_any}
 use Rattle.std.specs.Option.{option_or}
@@ -148,3 +148,34 @@ pub get_same : {V : Type 0} (xs : List V) (k : ℕ) (d e : V) → k < length xs 
 get_same [] k d e l = absurd (omega (arith, l))
 get_same (x ∷ xs) zero d e l = refl
 get_same (x ∷ xs) (suc k) d e l = get_same xs k d e (omega (arith, l))
+
+-- ---- the first that passes
+
+pub found_here : (bytes : List ℕ) (p : Item → Bool) (xs : List Item) (k : ℕ) (x : Part) (all : Option Item) → k < length xs → x.bytes ≡ bytes → ((d : Item) → x.item ≡ get_or xs k d) → p x.item ≡ true
+    → find p (drop k xs) ≡ all → Some x ≡ option_map (part_of bytes) all
+found_here bytes p xs k x all l b e passes h =
+    ap (λ bs. Some (part_of bs x.item)) b
+    ∙ ap (option_map (part_of bytes)) (sym (ap (find p) (drop_here xs k x.item l e) ∙ find_yes p x.item (drop (k + 1) xs) passes) ∙ h)
+  where
+    find_yes : (p : Item → Bool) (x : Item) (xs : List Item) → p x ≡ true → find p (x ∷ xs) ≡ Some x
+    find_yes p x xs e = rw e refl
+
+pub found_later : (p : Item → Bool) (xs : List Item) (k : ℕ) (x : Item) (all : Option Item) → k < length xs → ((d : Item) → x ≡ get_or xs k d) → p x ≡ false
+    → find p (drop k xs) ≡ all → find p (drop (k + 1) xs) ≡ all
+found_later p xs k x all l e fails h = sym (ap (find p) (drop_here xs k x l e) ∙ find_no p x (drop (k + 1) xs) fails) ∙ h
+  where
+    find_no : (p : Item → Bool) (x : Item) (xs : List Item) → p x ≡ false → find p (x ∷ xs) ≡ find p xs
+    find_no p x xs e = rw e refl
+
+pub found_none : (bytes : List ℕ) (p : Item → Bool) (xs : List Item) (k : ℕ) (all : Option Item) → length xs ≤ k → find p (drop k xs) ≡ all → None ≡ option_map (part_of bytes) all
+found_none bytes p xs k all l h = ap (option_map (part_of bytes)) (sym (ap (find p) (drop_past xs k l)) ∙ h)
+
+pub has_first : (a b : Bool) → a ≡ true → (a || b) ≡ true
+has_first a b e = rw e refl
+
+pub has_second : (a b : Bool) → b ≡ true → (a || b) ≡ true
+has_second true b e = refl
+has_second false b e = e
+
+pub has_neither : (a b : Bool) → a ≡ false → b ≡ false → (a || b) ≡ false
+has_neither a b e f = rw e f

@@ -1,9 +1,9 @@
--- What all kinds of items have in common: points, nets, stamps, lines, sizes.
-use Rattle.std.specs.Prelude.{ℕ, zero, suc, ◌-◌, Bool, true, false, not, ◌&&◌, ◌||◌, ◌==◌, nat_lt, if◌then◌else◌, List, take, codes, count_by, filter_map, slice_index, Option, ℤ, pos, negsuc, option_and_then, option_map}
+-- What all kinds of items have in common: points, nets, stamps, lines, sizes, the version.
+use Rattle.std.specs.Prelude.{ℕ, zero, suc, ◌-◌, Bool, true, false, not, ◌&&◌, ◌||◌, ◌==◌, nat_lt, if◌then◌else◌, List, take, codes, count_by, find, filter_map, slice_index, Option, ℤ, pos, negsuc, option_and_then, option_map}
 use Rattle.std.specs.List.{list_any}
 use Rattle.grid_num.specs.declared.Point.{Point}
 use Rattle.sexpr_text.specs.Grammar.{is_space}
-use Rattle.sexpr_text.specs.Items.{Item}
+use Rattle.sexpr_text.specs.Items.{Item, children_of, is_headed}
 use Rattle.sexpr_text.specs.declared.Span.{Span}
 use Rattle.board_text.specs.Lists.{headed}
 use Rattle.board_text.specs.Fields.{list_of, text_at}
@@ -111,6 +111,20 @@ context_of bytes board = record { bytes = bytes; copper = copper_layers bytes bo
 
 -- ---- stamps
 
--- the stamp of a track, via or zone: the first item behind the head of its `tstamp`, where that is a word or a string
+-- a list that holds a stamp: its head is `tstamp`, or `uuid` in the texts of newer editors
+abbrev pub is_stamp_list : List ℕ → Item → Bool
+is_stamp_list bytes item = is_headed bytes (codes "tstamp") item || is_headed bytes (codes "uuid") item
+
+-- of several such lists in an item the first counts, whichever head it has
+abbrev pub stamp_list : List ℕ → Item → Option Item
+stamp_list bytes item = find (is_stamp_list bytes) (children_of item)
+
+-- the stamp of a track, via or zone: the first item behind that head, where it is a word or a string
 abbrev pub stamp_in : List ℕ → Item → Option (List ℕ)
-stamp_in bytes item = option_and_then (text_at bytes 0) (list_of bytes (codes "tstamp") item)
+stamp_in bytes item = option_and_then (text_at bytes 0) (stamp_list bytes item)
+
+-- ---- the version
+
+-- the board's version: the whole number behind the head of its first `version`; 0 where there is none
+abbrev pub version_of : List ℕ → Item → ℕ
+version_of bytes board = whole_in bytes (codes "version") board

@@ -5,6 +5,7 @@ use Rattle.std.specs.Char.{is_ascii_digit}
 use Rattle.std.specs.Option.{option_or}
 use Rattle.grid_num.specs.Spelling.{number}
 use Rattle.grid_num.specs.Length.{nanometres, with_sign}
+use Rattle.grid_num.specs.Area.{millionths}
 use Rattle.grid_num.specs.Parts.{begins_with, whole_of, fraction_of}
 use Rattle.grid_num.specs.declared.read.NumFault.{NumFault}
 use Rattle.grid_num.specs.declared.read.NumFault.TheVariants.{NotANumber, TooFine, OutOfRange}
@@ -19,6 +20,10 @@ are_zeros digits = list_all (λ digit. digit == 48) digits
 -- a decimal: an optional sign, digits, and an optional point with digits; at least one digit stands somewhere
 abbrev pub is_decimal : List ℕ → Bool
 is_decimal text = list_all is_ascii_digit (fraction_of text) && not (length (whole_of text) + length (fraction_of text) == 0)
+
+-- no place past the sixth has another digit than 0
+abbrev pub is_fine : List ℕ → Bool
+is_fine text = are_zeros (drop 6 (fraction_of text))
 
 -- it begins with a minus
 abbrev pub is_negative : List ℕ → Bool
@@ -39,12 +44,29 @@ or_zero value zero (Some fault) = zero
 unfoldable pub length_fault : List ℕ → Option NumFault
 length_fault text =
     if not (is_decimal text) then Some NotANumber
-    else (if not (are_zeros (drop 6 (fraction_of text))) then Some TooFine
+    else (if not (is_fine text) then Some TooFine
     else (if nat_lt 500000000 (nanometres (whole_of text) (fraction_of text)) then Some OutOfRange else None))
 
 -- the nanometres that a text spells
 unfoldable pub length_of : List ℕ → ℤ
 length_of text = or_zero (with_sign (is_negative text) (nanometres (whole_of text) (fraction_of text))) (pos 0) (length_fault text)
+
+-- ---- areas: square millimetres, read as millionths of one
+
+-- below 0, or beyond 1,000,000 square millimetres
+abbrev pub is_no_area : Bool → ℕ → Bool
+is_no_area negative area = (negative && nat_lt 0 area) || nat_lt 1000000000000 area
+
+-- what is wrong with a text from which an area is wanted: the number, its places behind the sixth, its range
+unfoldable pub area_fault : List ℕ → Option NumFault
+area_fault text =
+    if not (is_decimal text) then Some NotANumber
+    else (if not (is_fine text) then Some TooFine
+    else (if is_no_area (is_negative text) (millionths (whole_of text) (fraction_of text)) then Some OutOfRange else None))
+
+-- the millionths of a square millimetre that a text spells
+unfoldable pub area_number : List ℕ → ℕ
+area_number text = or_zero (millionths (whole_of text) (fraction_of text)) 0 (area_fault text)
 
 -- ---- whole numbers: one or more digits, below 2 ^ 32
 
@@ -114,6 +136,10 @@ fault_at read bytes place (Some list) = if_there read bytes (slice_get (behind_h
 -- what is wrong with the length at a place of a list
 abbrev pub length_fault_at : List ℕ → ℕ → Option Item → Option NumFault
 length_fault_at bytes place list = fault_at length_fault bytes place list
+
+-- what is wrong with the area at a place of a list
+abbrev pub area_fault_at : List ℕ → ℕ → Option Item → Option NumFault
+area_fault_at bytes place list = fault_at area_fault bytes place list
 
 -- what is wrong with the whole number at a place of a list
 abbrev pub whole_fault_at : List ℕ → ℕ → Option Item → Option NumFault

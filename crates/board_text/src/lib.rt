@@ -13,7 +13,8 @@ mod text;
 
 pub use name::Name;
 pub use number::{
-    are_digits, first_of, length_fault, length_law, length_of, whole_fault, whole_number,
+    are_digits, area_fault, area_law, area_number, first_of, length_fault, length_law, length_of,
+    whole_fault, whole_number,
 };
 pub use part::Part;
 pub use space::solid_end;

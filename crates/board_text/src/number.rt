@@ -4,13 +4,14 @@ ghost use Rattle.std.specs.List.{All, list_all};
 ghost use Rattle.std.specs.Char.{IsAsciiDigit, is_ascii_digit};
 ghost use Rattle.grid_num.specs.Spelling.{number};
 ghost use Rattle.grid_num.specs.Length.{IsInRange, IsLength};
+ghost use Rattle.grid_num.specs.Area.{HasAreaFault, IsArea};
 ghost use Rattle.grid_num.specs.Faults.{HasFault};
 ghost use Rattle.grid_num.specs.declared.read.NumFault.{NumFault};
-ghost use Rattle.board_text.specs.Numbers.{length_fault, length_of, whole_fault, whole_number, text_fault, item_fault, if_there, fault_at, length_fault_at, whole_fault_at, point_fault, first_of, is_short, length_at, value_at};
+ghost use Rattle.board_text.specs.Numbers.{length_fault, length_of, area_fault, area_number, whole_fault, whole_number, text_fault, item_fault, if_there, fault_at, length_fault_at, area_fault_at, whole_fault_at, point_fault, first_of, is_short, length_at, value_at};
 ghost use Rattle.board_text.specs.Items.{point_at};
 
 use crate::Part;
-use grid_num::{Memory, NumFault, Point, read_mm};
+use grid_num::{Memory, NumFault, Point, read_area, read_mm};
 use std::alloc::Global;
 
 /// What is wrong with a text from which a length is wanted.
@@ -30,6 +31,26 @@ pub fn length_of(text: &[u8]) -> i64
 {
     match read_mm(text) {
         Ok(length) => length.get(),
+        Err(_) => 0,
+    }
+}
+
+/// What is wrong with a text from which an area is wanted.
+pub fn area_fault(text: &[u8]) -> Option<NumFault>
+    ensures { result ≡ area_fault text.now }
+{
+    match read_area(text) {
+        Ok(_) => None,
+        Err(fault) => Some(fault),
+    }
+}
+
+/// The area that a text spells, in millionths of a square millimetre; 0 where it spells none.
+pub fn area_number(text: &[u8]) -> u64
+    ensures { result ≡ area_number text.now }
+{
+    match read_area(text) {
+        Ok(area) => area,
         Err(_) => 0,
     }
 }
@@ -106,6 +127,20 @@ impl<'a> Part<'a> {
         }
     }
 
+    /// What is wrong with an item from which an area is wanted.
+    ///
+    /// # Errors
+    ///
+    /// Want of memory.
+    pub fn area_fault(&self, alloc: Global) -> Result<Option<NumFault>, Memory>
+        ensures { IfOk result (λ f. f ≡ item_fault area_fault self.now.bytes self.now.item) }
+    {
+        match self.text(alloc)? {
+            Some(text) => Ok(area_fault(&text)),
+            None => Ok(Some(NumFault::NotANumber)),
+        }
+    }
+
     /// What is wrong with an item from which a whole number is wanted.
     ///
     /// # Errors
@@ -130,6 +165,20 @@ impl<'a> Part<'a> {
     {
         match self.behind(place) {
             Some(item) => item.length_fault(alloc),
+            None => Ok(None),
+        }
+    }
+
+    /// What is wrong with the area at a place behind the head.
+    ///
+    /// # Errors
+    ///
+    /// Want of memory.
+    pub fn area_fault_at(&self, alloc: Global, place: usize) -> Result<Option<NumFault>, Memory>
+        ensures { IfOk result (λ f. f ≡ area_fault_at self.now.bytes place (Some self.now.item)) }
+    {
+        match self.behind(place) {
+            Some(item) => item.area_fault(alloc),
             None => Ok(None),
         }
     }
@@ -212,6 +261,12 @@ impl<'a> Part<'a> {
         if len > 0 { len - 1 < n } else { 0 < n }
     }
 }
+
+/// An area is read here as `grid_num` reads it: the same areas, and the same faults.
+pub fn area_law()
+    ensures area { (text : List ℕ) (area : ℕ) → IsArea text area → (area_fault text ≡ None) × (area ≡ area_number text) }
+    ensures fault { (text : List ℕ) (fault : NumFault) → HasAreaFault text fault → (area_fault text ≡ Some fault) × (0 ≡ area_number text) }
+{}
 
 /// A length is read here as `grid_num` reads it: the same lengths, and the same faults.
 pub fn length_law()

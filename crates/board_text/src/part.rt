@@ -4,6 +4,7 @@ ghost use Rattle.sexpr_text.specs.Items.{Item, IsLeafKind, children_of, is_heade
 ghost use Rattle.sexpr_text.specs.Trees.{IsTreeOf, IsTreeAt};
 ghost use Rattle.board_text.specs.Lists.{is_list, lists_of, behind_head};
 ghost use Rattle.board_text.specs.Fields.{list_of, list_in, text_of, head_begins};
+ghost use Rattle.board_text.specs.Items.{stamp_list};
 ghost use Rattle.sexpr_text.specs.Parts.{part_of, item_at};
 
 use grid_num::Memory;
@@ -110,6 +111,19 @@ impl<'a> Part<'a> {
             }),
             None => None,
         }
+    }
+
+    /// The first child list that holds a stamp: a `tstamp` or a `uuid`, whichever stands first.
+    pub fn stamp_list(&self) -> Option<Part<'a>>
+        ensures { result ≡ option_map (part_of self.now.bytes) (stamp_list self.now.bytes self.now.item) }
+    {
+        'each: for place in 0..self.len() {
+            let child = self.child(place);
+            if child.is_headed(b"tstamp") || child.is_headed(b"uuid") {
+                return Some(child);
+            }
+        }
+        None
     }
 
     /// The first list with the second head in the first list with the first head.

@@ -1,40 +1,19 @@
 // What offends in the board itself, and in its nets.
-ghost use Rattle.std.specs.Prelude.{◌≡◌, ◌∷◌, [], not, ◌&&◌, nat_lt, codes, Some, IfOk};
-ghost use Rattle.sexpr_text.specs.Items.{is_headed};
-ghost use Rattle.board_text.specs.Fields.{list_of};
-ghost use Rattle.board_text.specs.Numbers.{whole_fault_at, value_at, whole_number};
-ghost use Rattle.board_language.specs.Offences.{is_version, is_version_number, board_kind, net_kind};
+ghost use Rattle.std.specs.Prelude.{◌≡◌, IfOk};
+ghost use Rattle.board_language.specs.Offences.{is_version, board_kind, net_kind};
 ghost use Rattle.board_items.specs.Known.{context};
 
-use board_items::Known;
+use board_items::{Known, version_of};
 use board_language::{OffenceKind, first_kind, number_kind, when};
-use board_text::{Part, whole_fault, whole_number};
+use board_text::Part;
 use grid_num::Memory;
 use std::alloc::Global;
 
-fn is_version_number(number: u32) -> bool
-    ensures { result ≡ is_version_number number }
+/// Whether texts of this version are read.
+fn is_version(number: u32) -> bool
+    ensures { result ≡ is_version number }
 {
-    20211013 < number && number < 20221019
-}
-
-/// Whether a `version` has a whole number from KiCad 6 to KiCad 7.
-fn is_version_list(alloc: Global, list: &Part<'_>) -> Result<bool, Memory>
-    ensures { IfOk result (λ yes. yes ≡ is_version list.now.bytes (Some list.now.item)) }
-{
-    match list.text_at(alloc, 0)? {
-        Some(text) => Ok(whole_fault(&text).is_none() && is_version_number(whole_number(&text))),
-        None => Ok(false),
-    }
-}
-
-fn has_version(alloc: Global, board: &Part<'_>) -> Result<bool, Memory>
-    ensures { IfOk result (λ yes. yes ≡ is_version board.now.bytes (list_of board.now.bytes (codes "version") board.now.item)) }
-{
-    match board.list(b"version") {
-        Some(list) => is_version_list(alloc, &list),
-        None => Ok(false),
-    }
+    20211013 < number && number < 20241232
 }
 
 /// The first offence of the board itself.
@@ -50,10 +29,10 @@ pub fn board_kind(
 ) -> Result<Option<OffenceKind>, Memory>
     ensures { IfOk result (λ k. k ≡ board_kind (context board.now.bytes known.now) board.now.item) }
 {
-    let version = has_version(alloc, board)?;
+    let version = version_of(alloc, board)?;
     Ok(first_kind(&[
         when(OffenceKind::NotBoard, !board.is_headed(b"kicad_pcb")),
-        when(OffenceKind::Version, !version),
+        when(OffenceKind::Version, !is_version(version)),
         when(OffenceKind::MissingPart, !board.has(b"layers")),
     ]))
 }

@@ -30,11 +30,12 @@ pub fn layers_kind(
     let lacks = lacks_name(alloc, &layers)?;
     let fault = layers_fault(alloc, &layers)?;
     let names = names_of_layers(alloc, &layers)?;
+    let double = has_double(alloc, &names)?;
     let copper = copper_among(alloc, &names)?;
     Ok(first_kind(&[
         when(OffenceKind::MissingPart, lacks),
         number_kind(fault),
-        when(OffenceKind::DoubleLayer, has_double(&names)),
+        when(OffenceKind::DoubleLayer, double),
         when(OffenceKind::TooMany, 32 < copper.len()),
     ]))
 }

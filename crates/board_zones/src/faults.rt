@@ -3,10 +3,11 @@ ghost use Rattle.std.specs.Prelude.{◌≡◌, ◌||◌, ◌∷◌, [], codes, I
 ghost use Rattle.std.specs.List.{list_any};
 ghost use Rattle.board_text.specs.Numbers.{first_of, is_short, has_short};
 ghost use Rattle.board_text.specs.Items.{is_no_length};
-ghost use Rattle.board_language.specs.Zones.{zone_fault, clearance_list, gap_list, bridge_list, mode_list};
+ghost use Rattle.board_language.specs.Zones.{zone_fault, clearance_list, gap_list, bridge_list, mode_list, island_area_list};
 ghost use Rattle.board_language.specs.Offences.{zone_lacks, zone_is_bad};
 
 use crate::inside::{is_bare_inside, length_fault_inside, whole_fault_inside};
+use crate::islands::{is_bare_island_area, island_area_fault};
 use crate::outline::{corners_fault, outline_lacks};
 use crate::settings::{bridge_in, clearance_in, gap_in, thickness_in};
 use board_items::{has_short, is_no_length};
@@ -30,9 +31,10 @@ pub fn zone_fault(alloc: Global, zone: &Part<'_>) -> Result<Option<NumFault>, Me
     let gap = length_fault_inside(alloc, zone, b"fill", b"thermal_gap")?;
     let bridge = length_fault_inside(alloc, zone, b"fill", b"thermal_bridge_width")?;
     let mode = whole_fault_inside(alloc, zone, b"fill", b"island_removal_mode")?;
+    let area = island_area_fault(alloc, zone)?;
     let corners = corners_fault(alloc, zone)?;
     Ok(first_of(&[
-        net, priority, clearance, thickness, gap, bridge, mode, corners,
+        net, priority, clearance, thickness, gap, bridge, mode, area, corners,
     ]))
 }
 
@@ -43,13 +45,17 @@ fn has_bare_list(zone: &Part<'_>) -> bool
     has_short(zone, 1, &names)
 }
 
-fn has_bare_setting(zone: &Part<'_>) -> bool
-    ensures { result ≡ list_any (is_short 1) (clearance_list zone.now.bytes zone.now.item ∷ gap_list zone.now.bytes zone.now.item ∷ bridge_list zone.now.bytes zone.now.item ∷ mode_list zone.now.bytes zone.now.item ∷ []) }
+fn has_bare_setting(alloc: Global, zone: &Part<'_>) -> Result<bool, Memory>
+    ensures { IfOk result (λ yes. yes ≡ list_any (is_short 1) (clearance_list zone.now.bytes zone.now.item ∷ gap_list zone.now.bytes zone.now.item ∷ bridge_list zone.now.bytes zone.now.item ∷ mode_list zone.now.bytes zone.now.item ∷ island_area_list zone.now.bytes zone.now.item ∷ [])) }
 {
-    is_bare_inside(zone, b"connect_pads", b"clearance")
-        || is_bare_inside(zone, b"fill", b"thermal_gap")
-        || is_bare_inside(zone, b"fill", b"thermal_bridge_width")
-        || is_bare_inside(zone, b"fill", b"island_removal_mode")
+    let area = is_bare_island_area(alloc, zone)?;
+    Ok(
+        is_bare_inside(zone, b"connect_pads", b"clearance")
+            || is_bare_inside(zone, b"fill", b"thermal_gap")
+            || is_bare_inside(zone, b"fill", b"thermal_bridge_width")
+            || is_bare_inside(zone, b"fill", b"island_removal_mode")
+            || area,
+    )
 }
 
 /// Whether a zone lacks a part.
@@ -61,7 +67,8 @@ pub fn zone_lacks(alloc: Global, zone: &Part<'_>) -> Result<bool, Memory>
     ensures { IfOk result (λ yes. yes ≡ zone_lacks zone.now.bytes zone.now.item) }
 {
     let lacks = outline_lacks(alloc, zone)?;
-    Ok(lacks || has_bare_list(zone) || has_bare_setting(zone))
+    let bare = has_bare_setting(alloc, zone)?;
+    Ok(lacks || has_bare_list(zone) || bare)
 }
 
 /// Whether one of a zone's lengths is negative or above 100 mm.

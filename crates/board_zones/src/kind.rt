@@ -49,13 +49,13 @@ fn is_smoothed(alloc: Global, zone: &Part<'_>) -> Result<bool, Memory>
     }
 }
 
-/// Whether islands are removed otherwise than always or never.
+/// Whether islands are removed otherwise than always, never or below an area.
 fn has_other_mode(alloc: Global, zone: &Part<'_>) -> Result<bool, Memory>
     ensures { IfOk result (λ yes. yes ≡ has_other_mode zone.now.bytes zone.now.item) }
 {
     match zone.list_in(b"fill", b"island_removal_mode") {
         Some(list) => match list.text_at(alloc, 0)? {
-            Some(text) => Ok(whole_fault(&text).is_none() && whole_number(&text) > 1),
+            Some(text) => Ok(whole_fault(&text).is_none() && whole_number(&text) > 2),
             None => Ok(false),
         },
         None => Ok(false),

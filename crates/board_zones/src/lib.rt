@@ -5,6 +5,7 @@
 
 mod faults;
 mod inside;
+mod islands;
 mod kind;
 mod lists;
 mod outline;

@@ -2,9 +2,11 @@
 ghost use Rattle.std.specs.Prelude.{◌≡◌, map, codes, IfOk};
 ghost use Rattle.grid_num.specs.Length.{IsInRange};
 ghost use Rattle.board_text.specs.Fields.{list_of};
-ghost use Rattle.board_language.specs.Zones.{clearance_in, thickness_in, gap_in, bridge_in, mode_in, join_by_word, first_join, join_in};
+ghost use Rattle.board_text.specs.Items.{size_of};
+ghost use Rattle.board_language.specs.Zones.{clearance_in, thickness_in, gap_in, bridge_in, join_by_word, first_join, join_in};
 
 use crate::inside::{length_first, length_inside};
+use board_items::size_of;
 use board_language::Join;
 use board_text::Part;
 use grid_num::Memory;
@@ -61,18 +63,52 @@ pub fn bridge_in(alloc: Global, zone: &Part<'_>) -> Result<i64, Memory>
     length_inside(alloc, zone, b"fill", b"thermal_bridge_width", 500_000)
 }
 
-/// How islands are removed: 0 always, 1 never, 2 below an area; always where nothing is said.
+/// The clearance that counts.
 ///
 /// # Errors
 ///
 /// Want of memory.
-pub fn mode_in(alloc: Global, zone: &Part<'_>) -> Result<u32, Memory>
-    ensures { IfOk result (λ n. n ≡ mode_in zone.now.bytes zone.now.item) }
+pub fn clearance_of(alloc: Global, zone: &Part<'_>) -> Result<u32, Memory>
+    ensures { IfOk result (λ n. n ≡ size_of (clearance_in zone.now.bytes zone.now.item)) }
 {
-    match zone.list_in(b"fill", b"island_removal_mode") {
-        Some(list) => list.whole_at(alloc, 0),
-        None => Ok(0),
-    }
+    let nm = clearance_in(alloc, zone)?;
+    Ok(size_of(nm))
+}
+
+/// The minimum thickness that counts.
+///
+/// # Errors
+///
+/// Want of memory.
+pub fn thickness_of(alloc: Global, zone: &Part<'_>) -> Result<u32, Memory>
+    ensures { IfOk result (λ n. n ≡ size_of (thickness_in zone.now.bytes zone.now.item)) }
+{
+    let nm = thickness_in(alloc, zone)?;
+    Ok(size_of(nm))
+}
+
+/// The gap that counts.
+///
+/// # Errors
+///
+/// Want of memory.
+pub fn gap_of(alloc: Global, zone: &Part<'_>) -> Result<u32, Memory>
+    ensures { IfOk result (λ n. n ≡ size_of (gap_in zone.now.bytes zone.now.item)) }
+{
+    let nm = gap_in(alloc, zone)?;
+    Ok(size_of(nm))
+}
+
+/// The width of the bridges that counts.
+///
+/// # Errors
+///
+/// Want of memory.
+pub fn bridge_of(alloc: Global, zone: &Part<'_>) -> Result<u32, Memory>
+    ensures { IfOk result (λ n. n ≡ size_of (bridge_in zone.now.bytes zone.now.item)) }
+{
+    let nm = bridge_in(alloc, zone)?;
+    Ok(size_of(nm))
 }
 
 /// How a word of `connect_pads` says that pads are joined.

@@ -5,11 +5,12 @@ ghost use Rattle.board_language.specs.Zones.{area_of, zone_of};
 ghost use Rattle.board_items.specs.Known.{context};
 ghost use Rattle.board_zones.specs.Kinds.{IsAreaWithoutOffence, IsZoneWithoutOffence};
 
+use crate::islands::islands_in;
 use crate::outline::outline_of;
 use crate::read::layers_of;
-use crate::settings::{bridge_in, clearance_in, gap_in, join_in, mode_in, thickness_in};
+use crate::settings::{bridge_of, clearance_of, gap_of, join_in, thickness_of};
 use crate::spans::spans_of;
-use board_items::{Known, size_of};
+use board_items::Known;
 use board_language::{Area, Zone};
 use board_text::Part;
 use grid_num::Memory;
@@ -27,22 +28,22 @@ pub fn zone_of(alloc: Global, known: &Known, zone: &Part<'_>, line: u64) -> Resu
     requires sound { IsZoneWithoutOffence (context zone.now.bytes known.now) zone.now.item }
     ensures { IfOk result (λ z. z ≡ zone_of (context zone.now.bytes known.now) zone.now.item) }
 {
-    let clearance = clearance_in(alloc, zone)?;
-    let thickness = thickness_in(alloc, zone)?;
-    let gap = gap_in(alloc, zone)?;
-    let bridge = bridge_in(alloc, zone)?;
-    let mode = mode_in(alloc, zone)?;
+    let clearance = clearance_of(alloc, zone)?;
+    let thickness = thickness_of(alloc, zone)?;
+    let gap = gap_of(alloc, zone)?;
+    let bridge = bridge_of(alloc, zone)?;
+    let islands = islands_in(alloc, zone)?;
     Ok(Zone {
         outline: outline_of(alloc, zone)?,
         layers: layers_of(alloc, known, zone)?,
         net: zone.whole_in(alloc, b"net")?,
         priority: zone.whole_in(alloc, b"priority")?,
         join: join_in(alloc, zone)?,
-        clearance: size_of(clearance),
-        thickness: size_of(thickness),
-        gap: size_of(gap),
-        bridge: size_of(bridge),
-        keep_islands: mode == 1,
+        clearance,
+        thickness,
+        gap,
+        bridge,
+        islands,
         spans: spans_of(alloc, zone)?,
         span: zone.span(),
         line,

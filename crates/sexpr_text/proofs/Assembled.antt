@@ -3,12 +3,12 @@ use Rattle.std.proofs.Common.{◌≡◌, ◌⊎◌, ℕ, ◌+◌, ◌<◌, ◌�
 use Rattle.std.proofs.lemmas.Option.{slice_get-get_or, slice_get_past}
 use Rattle.std.proofs.lemmas.List.{take_more, take_all}
 use Rattle.sexpr_text.specs.Grammar.{Forest, Spelt}
-use Rattle.sexpr_text.specs.Spot.{step, text_spot}
-use Rattle.sexpr_text.specs.Spot.TextSpot.{Behind, Lost}
-use Rattle.sexpr_text.specs.Cut.{cut_step, cuts}
-use Rattle.sexpr_text.specs.Cut.Cut.{Full, Broken}
+use Rattle.sexpr_text.specs.Inner.Spot.{step, text_spot}
+use Rattle.sexpr_text.specs.Inner.Spot.TextSpot.{Behind, Lost}
+use Rattle.sexpr_text.specs.Inner.Cut.{cut_step, cuts}
+use Rattle.sexpr_text.specs.Inner.Cut.Cut.{Full, Broken}
 use Rattle.sexpr_text.specs.Faults.{IsFront, IsUtf8Front, IsPlace, IsFault, first_row}
-use Rattle.sexpr_text.specs.Seen.{fault_at_spot, ended}
+use Rattle.sexpr_text.specs.Inner.Seen.{fault_at_spot, ended}
 use Rattle.sexpr_text.specs.declared.error.TextKind.{TextKind}
 use Rattle.sexpr_text.proofs.Spots.{spelt_behind}
 use Rattle.sexpr_text.proofs.Fronts.{front_made, behind_tree}

@@ -1,8 +1,8 @@
 -- Bytes whose cut isn't broken begin UTF-8.
 use Rattle.std.proofs.Common.{◌≡◌, ◌⊎◌, ℕ, zero, suc, ◌+◌, ◌-◌, ◌*◌, ◌<◌, ◌≤◌, ◌/◌, ◌%◌, Bool, true, false, ◌&&◌, ◌==◌, cond, nat_lt, nat_le, List, [], ◌∷◌, refl, sym, ◌∙◌, ap, inl, inr, arith}
 use Rattle.std.specs.Char.{IsScalar, encode_utf8}
-use Rattle.sexpr_text.specs.Cut.{Cut, lead, follows, cut_step, cuts}
-use Rattle.sexpr_text.specs.Cut.Cut.{Full, Next, Broken}
+use Rattle.sexpr_text.specs.Inner.Cut.{Cut, lead, follows, cut_step, cuts}
+use Rattle.sexpr_text.specs.Inner.Cut.Cut.{Full, Next, Broken}
 use Rattle.sexpr_text.proofs.Cuts.{goes}
 use Rattle.sexpr_text.proofs.CutLaws.{broken_on}
 use lib.Utf8.{low_scalar}

@@ -2,8 +2,8 @@
 use Rattle.std.proofs.Common.{◌≡◌, ℕ, zero, suc, ◌+◌, ◌<◌, ◌≤◌, Bool, true, false, ◌==◌, nat_lt, List, [], ◌∷◌, ◌++◌, length, refl, sym, ◌∙◌, ap, subst, inl, inr, arith, length-append}
 use Rattle.std.proofs.lemmas.Str.{IsUtf8-append, IsUtf8-encode, IsUtf8-nil}
 use Rattle.std.specs.Str.{IsUtf8}
-use Rattle.sexpr_text.specs.Cut.{lead, cuts}
-use Rattle.sexpr_text.specs.Cut.Cut.{Full, Next, Broken}
+use Rattle.sexpr_text.specs.Inner.Cut.{lead, cuts}
+use Rattle.sexpr_text.specs.Inner.Cut.Cut.{Full, Next, Broken}
 use Rattle.sexpr_text.specs.Faults.{IsUtf8Front}
 use Rattle.sexpr_text.proofs.CutLaws.{cuts-append, broken_on}
 use Rattle.sexpr_text.proofs.CutBack.{Char, char1, char2, char3, char4, Taken, taken, fill, filled, valid}

@@ -2,8 +2,8 @@
 use Rattle.std.proofs.Common.{◌≡◌, ◌⊎◌, ℕ, ◌+◌, ◌<◌, ◌≤◌, ◌/◌, ◌%◌, true, false, nat_lt, List, [], ◌∷◌, ◌++◌, refl, sym, ◌∙◌, ap, inl, inr, arith}
 use Rattle.std.specs.Str.{all_scalars, encode_utf8_all}
 use Rattle.std.specs.Char.{IsScalar, encode_utf8}
-use Rattle.sexpr_text.specs.Cut.{Cut, lead, cut_step, cuts}
-use Rattle.sexpr_text.specs.Cut.Cut.{Full, Next, Broken}
+use Rattle.sexpr_text.specs.Inner.Cut.{Cut, lead, cut_step, cuts}
+use Rattle.sexpr_text.specs.Inner.Cut.Cut.{Full, Next, Broken}
 use Rattle.sexpr_text.specs.Faults.{IsUtf8Front}
 use Rattle.sexpr_text.proofs.Utf8Ends.{scalar_first}
 use Rattle.sexpr_text.proofs.Cuts.{goes, lead1, lead2, lead4, three}

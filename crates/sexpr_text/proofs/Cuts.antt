@@ -1,7 +1,7 @@
 -- Characters and their cuts.
 use Rattle.std.proofs.Common.{◌≡◌, ◌⊎◌, ℕ, ◌+◌, ◌-◌, ◌*◌, ◌<◌, ◌≤◌, ◌/◌, ◌%◌, true, false, ◌==◌, nat_lt, nat_le, [], ◌∷◌, refl, ◌∙◌, ap, inl, inr, arith}
-use Rattle.sexpr_text.specs.Cut.{Cut, lead, follows, cut_step, cuts}
-use Rattle.sexpr_text.specs.Cut.Cut.{Full, Next}
+use Rattle.sexpr_text.specs.Inner.Cut.{Cut, lead, follows, cut_step, cuts}
+use Rattle.sexpr_text.specs.Inner.Cut.Cut.{Full, Next}
 use Rattle.sexpr_text.proofs.Numbers.{below_or_past}
 
 pub goes : (low high left c : ℕ) → low ≤ c → c ≤ high → cut_step (Next low high left) c ≡ follows left

@@ -4,8 +4,8 @@ use Rattle.std.proofs.lemmas.List.{length-take-le, append-nil}
 use Rattle.std.proofs.lemmas.Str.{IsUtf8-append, IsUtf8-from_ascii}
 use Rattle.std.specs.Str.{IsUtf8, IsAscii}
 use Rattle.sexpr_text.specs.Grammar.{Forest, Spelt}
-use Rattle.sexpr_text.specs.Spot.{TextSpot, step, text_spot}
-use Rattle.sexpr_text.specs.Spot.TextSpot.{Before, Inside, Quoted, Behind, Lost}
+use Rattle.sexpr_text.specs.Inner.Spot.{TextSpot, step, text_spot}
+use Rattle.sexpr_text.specs.Inner.Spot.TextSpot.{Before, Inside, Quoted, Behind, Lost}
 use Rattle.sexpr_text.specs.Faults.{IsFront, IsUtf8Front}
 use Rattle.sexpr_text.proofs.Spots.{spelt_behind, next}
 use Rattle.sexpr_text.proofs.Parse.{not_lost, behind_spelt}

@@ -7,8 +7,8 @@ use Rattle.sexpr_text.proofs.Unique.{word_solid}
 use Rattle.std.specs.Str.{IsUtf8}
 use Rattle.sexpr_text.proofs.Local.{items_order}
 use Rattle.sexpr_text.proofs.Strings.{is_escaped-next}
-use Rattle.sexpr_text.specs.Spot.{TextSpot, step, text_spot, opened, closed}
-use Rattle.sexpr_text.specs.Spot.TextSpot.{Before, Inside, Quoted, Behind, Lost}
+use Rattle.sexpr_text.specs.Inner.Spot.{TextSpot, step, text_spot, opened, closed}
+use Rattle.sexpr_text.specs.Inner.Spot.TextSpot.{Before, Inside, Quoted, Behind, Lost}
 use Rattle.sexpr_text.proofs.Spots.{next, lost_on}
 use Rattle.sexpr_text.proofs.Numbers.{compared}
 

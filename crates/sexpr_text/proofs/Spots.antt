@@ -2,8 +2,8 @@
 use Rattle.std.proofs.Common.{◌≡◌, ℕ, zero, suc, ◌+◌, ◌-◌, ◌<◌, Bool, true, false, ◌&&◌, not, ◌==◌, cond, List, length, slice_index, refl, sym, ◌∙◌, ap, arith, add-one}
 use Rattle.sexpr_text.specs.Grammar.{Forest, Items, Spelt, HoldsBetween, IsWhite, IsWord, IsString, is_space, is_word, is_escaped}
 use Rattle.sexpr_text.specs.Grammar.Forest.{Nil, Word, Text, Group}
-use Rattle.sexpr_text.specs.Spot.{TextSpot, step, text_spot, opened, closed}
-use Rattle.sexpr_text.specs.Spot.TextSpot.{Before, Inside, Quoted, Behind, Lost}
+use Rattle.sexpr_text.specs.Inner.Spot.{TextSpot, step, text_spot, opened, closed}
+use Rattle.sexpr_text.specs.Inner.Spot.TextSpot.{Before, Inside, Quoted, Behind, Lost}
 
 pub next : (bytes : List ℕ) (n m : ℕ) → m ≡ n + 1 → text_spot bytes m ≡ step (text_spot bytes n) (slice_index bytes n)
 next bytes n m e = rw (e, add-one) refl

@@ -5,7 +5,7 @@ use Rattle.sexpr_text.specs.Grammar.Forest.{Nil, Word, Text, Group}
 use Rattle.sexpr_text.specs.Flat.{Shown, count, numbers, flat}
 use Rattle.sexpr_text.specs.declared.NodeKind as kinds
 use Rattle.sexpr_text.specs.declared.NodeKind.TheVariants as kind
-use Rattle.sexpr_text.specs.Run.{Reads, Stops, Through, NoItems}
+use Rattle.sexpr_text.specs.Inner.Run.{Reads, Stops, Through, NoItems}
 use Rattle.sexpr_text.proofs.Unique.{same_word, same_string, Begins, begins, begins_word, begins_string, same_begin, sort_below, one_reading, inner_stops, kind_of, place, same_start}
 use Rattle.sexpr_text.proofs.Numbers.{below_or_past}
 

@@ -4,8 +4,8 @@ use Rattle.std.proofs.lemmas.List.{drop-append-le, take-append-le, length-drop, 
 use Rattle.std.proofs.lemmas.Option.{slice_get-map, slice_get_read}
 use Rattle.std.specs.Option.{option_map}
 use Rattle.sexpr_text.specs.Flat.{Shown}
-use Rattle.sexpr_text.specs.Built.{Built}
-use Rattle.sexpr_text.specs.Storage.{shown, all_shown, IsRange}
+use Rattle.sexpr_text.specs.Inner.Built.{Built}
+use Rattle.sexpr_text.specs.Inner.Storage.{shown, all_shown, IsRange}
 use Rattle.sexpr_text.specs.declared.store.Node.{Node}
 use Rattle.sexpr_text.specs.declared.NodeKind.TheVariants as kind
 use Rattle.sexpr_text.proofs.Steps.{node}

@@ -2,9 +2,9 @@
 use Rattle.std.proofs.Common.{◌≡◌, ℕ, zero, suc, ◌-◌, Bool, true, false, ◌==◌, ◌&&◌, ◌||◌, not, cond, refl, ◌∙◌, ap, arith, Some, None}
 use Rattle.sexpr_text.specs.Grammar.{is_space}
 use Rattle.sexpr_text.specs.Faults.{first_row}
-use Rattle.sexpr_text.specs.Spot.{TextSpot}
-use Rattle.sexpr_text.specs.Spot.TextSpot.{Before, Inside, Quoted, Behind, Lost}
-use Rattle.sexpr_text.specs.Seen.{fault_at_spot, ended}
+use Rattle.sexpr_text.specs.Inner.Spot.{TextSpot}
+use Rattle.sexpr_text.specs.Inner.Spot.TextSpot.{Before, Inside, Quoted, Behind, Lost}
+use Rattle.sexpr_text.specs.Inner.Seen.{fault_at_spot, ended}
 use Rattle.sexpr_text.specs.declared.error.TextKind.{TextKind}
 use Rattle.sexpr_text.specs.declared.error.TextKind.TheVariants.{StrayClose, NotList, After, TooDeep, BadUtf8}
 use Rattle.sexpr_text.proofs.Wheres.{where_of}

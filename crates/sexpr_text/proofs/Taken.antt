@@ -3,8 +3,8 @@ use Rattle.std.proofs.Common.{◌≡◌, ℕ, ◌+◌, ◌-◌, ◌≤◌, List,
 use Rattle.std.proofs.lemmas.List.{append-nil, drop_at, take_at}
 use Rattle.sexpr_text.specs.Grammar.{Items, IsWhite, IsWord, IsString, IsBracket}
 use Rattle.sexpr_text.specs.Flat.{flat, numbers}
-use Rattle.sexpr_text.specs.Built.{Built}
-use Rattle.sexpr_text.specs.Run.{Reads, Takes, TakesList}
+use Rattle.sexpr_text.specs.Inner.Built.{Built}
+use Rattle.sexpr_text.specs.Inner.Run.{Reads, Takes, TakesList}
 use Rattle.sexpr_text.specs.declared.NodeKind.TheVariants as kind
 use Rattle.sexpr_text.proofs.Steps.{node, white_at, reads_none, reads_more, reads_wider, reads_end, reads_word, reads_string, reads_group, reads_as}
 

@@ -1,12 +1,12 @@
 -- The steps of the walk.
 use Rattle.std.proofs.Common.{◌≡◌, ◌⊎◌, ℕ, ◌+◌, ◌<◌, List, length, slice_index, take, refl, sym, ◌∙◌, ap, subst, inl, inr, Some, None}
-use Rattle.sexpr_text.specs.Spot.{TextSpot, step, text_spot}
-use Rattle.sexpr_text.specs.Spot.TextSpot.{Before, Inside, Quoted, Behind, Lost}
-use Rattle.sexpr_text.specs.Cut.{Cut, cut_step, cuts}
-use Rattle.sexpr_text.specs.Cut.Cut.{Full, Broken}
+use Rattle.sexpr_text.specs.Inner.Spot.{TextSpot, step, text_spot}
+use Rattle.sexpr_text.specs.Inner.Spot.TextSpot.{Before, Inside, Quoted, Behind, Lost}
+use Rattle.sexpr_text.specs.Inner.Cut.{Cut, cut_step, cuts}
+use Rattle.sexpr_text.specs.Inner.Cut.Cut.{Full, Broken}
 use Rattle.sexpr_text.specs.Grammar.{Forest, Spelt}
 use Rattle.sexpr_text.specs.Faults.{IsFault}
-use Rattle.sexpr_text.specs.Seen.{fault_at_spot, ended}
+use Rattle.sexpr_text.specs.Inner.Seen.{fault_at_spot, ended}
 use Rattle.sexpr_text.specs.declared.error.TextKind.{TextKind}
 use Rattle.sexpr_text.proofs.Spots.{next}
 use Rattle.sexpr_text.proofs.Assembled.{stopped, over, spelt, cut_next}

@@ -5,8 +5,8 @@ use Rattle.sexpr_text.specs.Grammar.{Forest, Items, Spelt, IsWhite, IsWord, IsSt
 use Rattle.sexpr_text.specs.Grammar.Forest.{Nil, Word, Text, Group}
 use Rattle.sexpr_text.specs.Faults.{IsFront, Where, is_inside, where_among, where_in}
 use Rattle.sexpr_text.specs.Faults.Where.{Before as TreeBefore, Inside as TreeInside, Quoted as TreeQuoted, Behind as TreeBehind}
-use Rattle.sexpr_text.specs.Spot.{TextSpot, step, text_spot}
-use Rattle.sexpr_text.specs.Spot.TextSpot.{Before, Inside, Quoted, Behind, Lost}
+use Rattle.sexpr_text.specs.Inner.Spot.{TextSpot, step, text_spot}
+use Rattle.sexpr_text.specs.Inner.Spot.TextSpot.{Before, Inside, Quoted, Behind, Lost}
 use Rattle.sexpr_text.proofs.Spots.{next, stays, space_before, space_behind, white_inside, word_over, word_inside, string_over, quoted_over, items_over, opened_some}
 use Rattle.sexpr_text.proofs.Finish.{spot_local, spot_take}
 use Rattle.sexpr_text.proofs.Numbers.{below_or_past}

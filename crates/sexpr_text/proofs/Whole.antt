@@ -4,8 +4,8 @@ use Rattle.std.specs.Str.{IsUtf8}
 use Rattle.sexpr_text.specs.Grammar.{Forest, Items, IsWhite, IsOneList, Spelt, is_space}
 use Rattle.sexpr_text.specs.Grammar.Forest.{Nil, Group}
 use Rattle.sexpr_text.specs.Flat.{flat}
-use Rattle.sexpr_text.specs.Built.{Built}
-use Rattle.sexpr_text.specs.Run.{TakesList, Stops, NoItems}
+use Rattle.sexpr_text.specs.Inner.Built.{Built}
+use Rattle.sexpr_text.specs.Inner.Run.{TakesList, Stops, NoItems}
 use Rattle.sexpr_text.specs.Trees.{IsTreeOf}
 use Rattle.sexpr_text.specs.declared.NodeKind.TheVariants as kinds
 use Rattle.sexpr_text.proofs.Unique.{one_reading, inner_stops, same_start}

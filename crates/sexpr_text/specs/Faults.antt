@@ -29,6 +29,7 @@ pub data Where : Type 0 where
   -- the list has ended
   Behind : Where
 
+-- the place n lies behind the one place and before the other
 abbrev pub is_inside : ℕ → ℕ → ℕ → Bool
 is_inside n from to = nat_lt from n && nat_lt n to
 
@@ -61,6 +62,7 @@ is_row kind anywhere byte = false
 abbrev pub rows : List TextKind
 rows = Empty ∷ BadString ∷ Unclosed ∷ StrayClose ∷ NotList ∷ After ∷ TooDeep ∷ BadUtf8 ∷ []
 
+-- the kind of the first row that holds
 abbrev pub first_row : Where → Option ℕ → Option TextKind
 first_row place byte = find (λ kind. is_row kind place byte) rows
 

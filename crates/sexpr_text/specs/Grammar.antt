@@ -11,6 +11,7 @@ pub data Forest : Type 0 where
   Text : (from to : ℕ) (rest : Forest) → Forest
   Group : (from to : ℕ) (inner rest : Forest) → Forest
 
+-- white space: space, tab, carriage return, line feed
 abbrev pub is_space : ℕ → Bool
 is_space c = c == 32 || c == 9 || c == 13 || c == 10
 
@@ -66,6 +67,7 @@ Items bytes room at end (Text from to rest) = IsWhite bytes at from × IsString 
 Items bytes room at end (Group from to inner rest) =
     IsWhite bytes at from × IsBracket bytes room from to × Items bytes (room - 1) (from + 1) (to - 1) inner × Items bytes room to end rest
 
+-- one list, and nothing beside it
 abbrev pub IsOneList : Forest → Type 0
 IsOneList (Group from to inner Nil) = Unit {0}
 IsOneList other = ⊥

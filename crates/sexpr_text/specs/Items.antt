@@ -14,6 +14,7 @@ pub record Item : Type 0 where
   pub to : ℕ
   pub inner : Forest
 
+-- the items of a forest, in order
 abbrev pub items_of : Forest → List Item
 items_of Nil = []
 items_of (Word from to rest) = record { kind = kinds.Word; from = from; to = to; inner = Nil } ∷ items_of rest
@@ -30,6 +31,7 @@ alone kinds.List from to inner = Group from to inner Nil
 alone kinds.Word from to inner = Word from to Nil
 alone kinds.Text from to inner = Text from to Nil
 
+-- a forest of one item
 abbrev pub forest_of : Item → Forest
 forest_of item = alone item.kind item.from item.to item.inner
 
@@ -39,6 +41,7 @@ IsLeafKind kinds.List = ⊥
 IsLeafKind kinds.Word = Unit {0}
 IsLeafKind kinds.Text = Unit {0}
 
+-- the item is a word or a string
 abbrev pub IsLeaf : Item → Type 0
 IsLeaf item = IsLeafKind item.kind
 
@@ -62,6 +65,7 @@ content_at kinds.Text bytes from to = unescaped false (slice_range bytes (from +
 abbrev pub content_of : List ℕ → Item → List ℕ
 content_of bytes item = content_at item.kind bytes item.from item.to
 
+-- where the first item lies, if that is a word
 abbrev pub first_word : Forest → Option Span
 first_word Nil = None
 first_word (Word from to rest) = Some (record { from = from; to = to })
@@ -72,6 +76,7 @@ first_word (Group from to inner rest) = None
 abbrev pub head_of : Item → Option Span
 head_of item = first_word item.inner
 
+-- whether the bytes at a place, if there is one, are this name
 abbrev pub is_name : List ℕ → List ℕ → Option Span → Bool
 is_name bytes name None = false
 is_name bytes name (Some head) = bytes_eq (slice_range bytes head.from head.to) name

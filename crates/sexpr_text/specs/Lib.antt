@@ -4,9 +4,4 @@ pub mod Flat
 pub mod Trees
 pub mod Parts
 pub mod Faults
-pub mod Built
-pub mod Storage
-pub mod Run
-pub mod Spot
-pub mod Cut
-pub mod Seen
+pub mod Inner

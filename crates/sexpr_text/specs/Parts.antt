@@ -14,10 +14,12 @@ put_part kinds.List from to inner rest = Group from to inner rest
 put_part kinds.Word from to inner rest = Word from to rest
 put_part kinds.Text from to inner rest = Text from to rest
 
+-- the numbers of a node's children; none where there is no node
 abbrev pub children_in : Option Shown → List ℕ
 children_in None = []
 children_in (Some node) = node.children
 
+-- a node's item in front of others; nothing where there is no node
 abbrev pub put_node : Option Shown → Forest → Forest → Forest
 put_node None inner rest = Nil
 put_node (Some node) inner rest = put_part node.kind node.from node.to inner rest
@@ -28,6 +30,7 @@ forest_at zero nodes ids = Nil
 forest_at (suc n) nodes [] = Nil
 forest_at (suc n) nodes (id ∷ ids) = put_node (slice_get nodes id) (forest_at n nodes (children_in (slice_get nodes id))) (forest_at n nodes ids)
 
+-- a node's item; an empty list where there is no node
 abbrev pub item_of : Option Shown → Forest → Item
 item_of None inner = record { kind = kinds.List; from = 0; to = 0; inner = Nil }
 item_of (Some node) inner = record { kind = node.kind; from = node.from; to = node.to; inner = inner }
@@ -41,6 +44,7 @@ pub record Part : Type 0 where
   pub bytes : List ℕ
   pub item : Item
 
+-- an item of a text, with the text's bytes
 abbrev pub part_of : List ℕ → Item → Part
 part_of bytes item = record { bytes = bytes; item = item }
 

@@ -1,8 +1,8 @@
 // Where the walk to a fault stands in a character of UTF-8.
 ghost use Rattle.std.specs.Prelude.{◌≡◌, ◌≢◌, true, false};
-ghost use Rattle.sexpr_text.specs.Cut.{lead, follows, cut_step};
-ghost use Rattle.sexpr_text.specs.Cut.Cut.{Next, Broken};
-ghost use Rattle.sexpr_text.specs.Seen.{seen_cut};
+ghost use Rattle.sexpr_text.specs.Inner.Cut.{lead, follows, cut_step};
+ghost use Rattle.sexpr_text.specs.Inner.Cut.Cut.{Next, Broken};
+ghost use Rattle.sexpr_text.specs.Inner.Seen.{seen_cut};
 
 /// Where a reader stands in a character.
 #[derive(Clone, Copy, Debug, PartialEq, Eq)]

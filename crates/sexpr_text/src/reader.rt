@@ -4,7 +4,7 @@ ghost use Rattle.std.specs.Str.{IsUtf8};
 ghost use Rattle.sexpr_text.specs.Grammar.{Forest, Spelt, is_space, is_word};
 ghost use Rattle.sexpr_text.specs.Trees.{IsTreeOf};
 ghost use Rattle.sexpr_text.specs.Faults.{IsRefused};
-ghost use Rattle.sexpr_text.specs.Run.{Takes, TakesList, Stops, Through, NoItems};
+ghost use Rattle.sexpr_text.specs.Inner.Run.{Takes, TakesList, Stops, Through, NoItems};
 ghost use Rattle.sexpr_text.specs.declared.reader.Failure.TheVariants.{Memory as no_memory};
 
 use crate::scan::{is_end, space_end, string_end, word_end};

@@ -1,7 +1,7 @@
 // Where white space, words and strings end.
 ghost use Rattle.std.specs.Prelude.{◌≡◌, ◌≢◌, ℕ, ◌&&◌, not, ◌==◌, ◌+◌, ◌<◌, ◌≤◌, true, false, length, slice_index, IfSome, IfNone};
 ghost use Rattle.sexpr_text.specs.Grammar.{is_space, is_word, IsWhite, IsWord, IsString};
-ghost use Rattle.sexpr_text.specs.Run.{Stops};
+ghost use Rattle.sexpr_text.specs.Inner.Run.{Stops};
 
 /// Whether a byte is white space.
 pub fn is_space_byte(byte: u8) -> bool

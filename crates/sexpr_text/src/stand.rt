@@ -1,8 +1,8 @@
 // Where the walk to a fault stands in a text.
 ghost use Rattle.std.specs.Prelude.{◌≡◌, ◌≢◌, ◌≤◌, true, false};
-ghost use Rattle.sexpr_text.specs.Spot.{step, opened, closed};
-ghost use Rattle.sexpr_text.specs.Spot.TextSpot.{Before, Inside, Quoted, Behind, Lost};
-ghost use Rattle.sexpr_text.specs.Seen.{seen, is_room, fault_at_spot, ended};
+ghost use Rattle.sexpr_text.specs.Inner.Spot.{step, opened, closed};
+ghost use Rattle.sexpr_text.specs.Inner.Spot.TextSpot.{Before, Inside, Quoted, Behind, Lost};
+ghost use Rattle.sexpr_text.specs.Inner.Seen.{seen, is_room, fault_at_spot, ended};
 
 use crate::TextKind;
 use crate::scan::is_space_byte;

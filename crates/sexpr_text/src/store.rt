@@ -26,11 +26,11 @@ pub struct Store {
 
 impl Model for Store {
     ghost use Rattle.std.specs.Prelude.{◌<◌, length, All};
-    ghost use Rattle.sexpr_text.specs.Built.{Built};
+    ghost use Rattle.sexpr_text.specs.Inner.Built.{Built};
 
     ghost Value = { Built };
 
-    ghost use Rattle.sexpr_text.specs.Storage.{all_shown, IsStored};
+    ghost use Rattle.sexpr_text.specs.Inner.Storage.{all_shown, IsStored};
 
     ghost view = { λ s. record { nodes = all_shown s.children.items s.nodes.items; waiting = s.waiting.items } };
 

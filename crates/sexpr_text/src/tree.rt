@@ -25,7 +25,7 @@ impl Model for Tree {
 
     ghost Value = { List Shown };
 
-    ghost use Rattle.sexpr_text.specs.Storage.{all_shown, IsStored};
+    ghost use Rattle.sexpr_text.specs.Inner.Storage.{all_shown, IsStored};
 
     ghost view = { λ t. all_shown t.children.items t.nodes.items };
 

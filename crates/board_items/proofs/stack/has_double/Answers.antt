@@ -1,22 +1,27 @@
-use Rattle.std.proofs.Common.{◌∙◌, ◌+◌, ◌-◌, ap, sym, drop, length, map, take, true, false}
-use Rattle.board_text.specs.Layers.{has_double, is_among}
+use Rattle.std.proofs.Common.{◌∙◌, ◌-◌, ◌||◌, List, ap, sym, subst, not, length, arith}
+use Rattle.std.specs.Str.{bytes_eq}
+use Rattle.board_text.specs.Layers.{Name, is_among}
 use Rattle.board_text.proofs.Walks.{get_same}
-use Rattle.board_items.proofs.Doubles.{among_rest, double_here, double_next, double_none}
+use Rattle.board_items.proofs.Doubles.{AreBehind, none_behind, stands_twice, stands_once, all_once}
 use Rattle.board_items.proofs.stack.has_double.Goals as goal
 
-pub returns-then-has_text : goal.returns-then-has_text
-returns-then-has_text c =
-    double_here (λ t. t.items) c.args.names.now c.each.place c.index-names-place.result (has_double (map (λ t. t.items) c.args.names.now)) c.each-test.true
-    (λ d. c.index-names-place.is ∙ get_same c.args.names.now c.each.place c.index-names-place.result d c.each-test.true)
-    (among_rest (λ t. t.items) c.args.names.now (c.each.place + 1) c.index-names-place.result.items true
-    (ap (is_among (map (λ t. t.items) (take (length c.args.names.now - (c.each.place + 1)) (drop (c.each.place + 1) c.args.names.now)))) (sym c.as_slice.ensures.value) ∙ sym c.has_text.ensures ∙ c.if-has_text.true)) c.each.invariant
+pub each-init : goal.each-init
+each-init c =
+    subst (λ (seen : List Name). AreBehind (λ t. t.items) c.args.names.now (length c.args.names.now - 0) seen) (sym c.new-behind.ensures)
+    (none_behind (λ t. t.items) c.args.names.now (length c.args.names.now - 0) (omega arith))
+
+pub returns-then-not-new : goal.returns-then-not-new
+returns-then-not-new c =
+    stands_twice (λ t. t.items) c.args.names.now c.each.step c.index-names-names.result c.each.behind c.in_ok-new.new c.each-test.true
+    (λ d. c.index-names-names.is ∙ get_same c.args.names.now (length c.args.names.now - 1 - c.each.step) c.index-names-names.result d (omega (arith, c.each-test.true)))
+    c.each.invariant (c.in_ok-new.ensures.first ∙ ap (λ name. not (is_among c.each.behind name)) (c.in_ok-copy_of.ensures ∙ c.as_slice.ensures.value)) c.if-not-new.true
 
 pub each-preserved : goal.each-preserved
 each-preserved c =
-    double_next (λ t. t.items) c.args.names.now c.each.place c.index-names-place.result (has_double (map (λ t. t.items) c.args.names.now)) c.each-test.true
-    (λ d. c.index-names-place.is ∙ get_same c.args.names.now c.each.place c.index-names-place.result d c.each-test.true)
-    (among_rest (λ t. t.items) c.args.names.now (c.each.place + 1) c.index-names-place.result.items false
-    (ap (is_among (map (λ t. t.items) (take (length c.args.names.now - (c.each.place + 1)) (drop (c.each.place + 1) c.args.names.now)))) (sym c.as_slice.ensures.value) ∙ sym c.has_text.ensures ∙ c.if-has_text.false)) c.each.invariant
+    stands_once (λ t. t.items) c.args.names.now c.each.step c.index-names-names.result c.each.behind c.put.new.self c.in_ok-new.new c.each-test.true
+    (λ d. c.index-names-names.is ∙ get_same c.args.names.now (length c.args.names.now - 1 - c.each.step) c.index-names-names.result d (omega (arith, c.each-test.true)))
+    c.each.invariant (c.in_ok-new.ensures.first ∙ ap (λ name. not (is_among c.each.behind name)) (c.in_ok-copy_of.ensures ∙ c.as_slice.ensures.value)) c.if-not-new.false
+    (λ other. c.in_ok-new.ensures.kept other ∙ ap (λ name. bytes_eq name other || is_among c.each.behind other) (c.in_ok-copy_of.ensures ∙ c.as_slice.ensures.value))
 
 pub returns : goal.returns
-returns c = double_none (λ t. t.items) c.args.names.now c.each.place (has_double (map (λ t. t.items) c.args.names.now)) c.each-test.false c.each.invariant
+returns c = all_once (λ t. t.items) c.args.names.now c.each.step c.each.behind c.each-test.false c.each.invariant

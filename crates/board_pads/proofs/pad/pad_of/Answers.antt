@@ -34,7 +34,7 @@ returns-clause-value c =
       c.in_ok-kind_of.ensures,
       c.in_ok-clearance_of.ensures,
       c.in_ok-join_of.ensures,
-      c.in_ok-length_of.ensures,
+      c.in_ok-gap_of.ensures,
       c.in_ok-bridge_of.ensures,
       c.requires.line,
       c.requires.same,

@@ -1,5 +1,5 @@
 use Rattle.std.proofs.Common.{◌+◌, ◌-◌, ◌*◌, ◌≤◌, length}
-use Rattle.sexpr_text.specs.Run.{Takes, Through}
+use Rattle.sexpr_text.specs.Inner.Run.{Takes, Through}
 use Rattle.sexpr_text.proofs.reader.+items.Given as goal
 
 abbrev pub decreases-list : goal.decreases-list

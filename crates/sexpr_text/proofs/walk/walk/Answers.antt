@@ -1,10 +1,10 @@
 use Rattle.std.proofs.Common.{◌≡◌, ◌⊎◌, slice_index, inl, inr, arith, refl, sym, ◌∙◌, subst}
 use Rattle.sexpr_text.specs.Faults.{IsFault}
-use Rattle.sexpr_text.specs.Spot.{step}
-use Rattle.sexpr_text.specs.Spot.TextSpot.{Lost}
-use Rattle.sexpr_text.specs.Cut.{cut_step, cuts}
-use Rattle.sexpr_text.specs.Cut.Cut.{Broken}
-use Rattle.sexpr_text.specs.Seen.{seen, seen_cut}
+use Rattle.sexpr_text.specs.Inner.Spot.{step}
+use Rattle.sexpr_text.specs.Inner.Spot.TextSpot.{Lost}
+use Rattle.sexpr_text.specs.Inner.Cut.{cut_step, cuts}
+use Rattle.sexpr_text.specs.Inner.Cut.Cut.{Broken}
+use Rattle.sexpr_text.specs.Inner.Seen.{seen, seen_cut}
 use Rattle.sexpr_text.proofs.WalkSteps.{walk_stop, walk_spot, walk_cut, walk_fault, walk_tree}
 use Rattle.sexpr_text.proofs.walk.walk.Goals as goal
 use Rattle.sexpr_text.proofs.walk.walk.Goals.{then-is_off-via-then-is_off, then-is_off-via-else-is_off+then-is_bad}

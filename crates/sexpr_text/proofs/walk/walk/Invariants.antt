@@ -1,9 +1,9 @@
 use Rattle.std.proofs.Common.{length, ◌-◌, ◌≡◌, ◌≢◌, ◌≤◌, take}
-use Rattle.sexpr_text.specs.Spot.{text_spot}
-use Rattle.sexpr_text.specs.Spot.TextSpot.{Lost}
-use Rattle.sexpr_text.specs.Cut.{cuts}
-use Rattle.sexpr_text.specs.Cut.Cut.{Full, Broken}
-use Rattle.sexpr_text.specs.Seen.{seen, is_room, seen_cut}
+use Rattle.sexpr_text.specs.Inner.Spot.{text_spot}
+use Rattle.sexpr_text.specs.Inner.Spot.TextSpot.{Lost}
+use Rattle.sexpr_text.specs.Inner.Cut.{cuts}
+use Rattle.sexpr_text.specs.Inner.Cut.Cut.{Full, Broken}
+use Rattle.sexpr_text.specs.Inner.Seen.{seen, is_room, seen_cut}
 use Rattle.sexpr_text.proofs.walk.walk.Given as goal
 
 abbrev pub invariant-each : goal.invariant-each

@@ -2,6 +2,7 @@
 use Rattle.std.specs.Prelude.{ℕ, zero, suc, ◌+◌, Bool, true, false, cond, ◌==◌, List, slice_index}
 use Rattle.sexpr_text.specs.Grammar.{is_space}
 
+-- where a reader stands in a text
 pub data TextSpot : Type 0 where
   -- nothing but white space was read
   Before : TextSpot
@@ -14,6 +15,7 @@ pub data TextSpot : Type 0 where
   -- no text begins so
   Lost : TextSpot
 
+-- behind an opening parenthesis, where lists could go so much deeper
 abbrev pub opened : ℕ → TextSpot
 opened zero = Lost
 opened (suc room) = Inside room
@@ -22,6 +24,7 @@ opened (suc room) = Inside room
 abbrev pub closed : ℕ → TextSpot
 closed room = cond (room == 63) Behind (Inside (room + 1))
 
+-- one byte further
 abbrev pub step : TextSpot → ℕ → TextSpot
 step Before c = cond (is_space c) Before (cond (c == 40) (Inside 63) Lost)
 step (Inside room) c = cond (c == 40) (opened room) (cond (c == 41) (closed room) (cond (c == 34) (Quoted room false) (Inside room)))

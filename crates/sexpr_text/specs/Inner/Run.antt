@@ -3,7 +3,7 @@ use Rattle.std.specs.Prelude.{◌≡◌, ℕ, ◌<◌, List, ◌++◌, length, s
 use Rattle.sexpr_text.specs.Grammar.{Forest, Items}
 use Rattle.sexpr_text.specs.Grammar.Forest.{Nil, Group}
 use Rattle.sexpr_text.specs.Flat.{Shown, flat, numbers}
-use Rattle.sexpr_text.specs.Built.{Built}
+use Rattle.sexpr_text.specs.Inner.Built.{Built}
 
 -- a list or the text ends here
 abbrev pub Stops : List ℕ → ℕ → Type 0

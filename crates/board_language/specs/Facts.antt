@@ -14,12 +14,13 @@ use Rattle.outline_slab.specs.Rules.{IsOutline, IsKeptOutline}
 use Rattle.board_language.specs.declared.board.Track.{Track}
 use Rattle.board_language.specs.declared.board.Via.{Via}
 use Rattle.board_language.specs.declared.board.Pad.{Pad}
+use Rattle.board_language.specs.declared.IslandMode.{IslandMode}
+use Rattle.board_language.specs.declared.IslandMode.TheVariants.{Remove, Keep, Below}
 use Rattle.board_language.specs.declared.board.Zone.{Zone}
 use Rattle.board_language.specs.declared.board.Area.{Area}
 use Rattle.board_language.specs.Board.{Board}
-use Rattle.fill_rules.specs.Tasks.{has_layer}
-use Rattle.fill_rules.specs.Needs.{pad_hulls}
-use Rattle.fill_rules.specs.Sound.{HasPad}
+use Rattle.board_language.specs.Copper.{has_layer, pad_hulls, HasPad}
+use Rattle.board_language.specs.Clearances.{AreSoundRules}
 
 -- a place lies within 500 mm of the origin, in x and in y
 abbrev pub IsPlaceInReach : Point → Type 0
@@ -77,6 +78,12 @@ pub record IsSoundOutline (corners : List Point) : Type 0 where
   pub kept : IsKeptOutline corners
   pub few : length corners ≤ 20000
 
+-- an area below which islands go is at most 1,000,000 square millimetres
+abbrev pub IsIslandModeInRange : IslandMode → Type 0
+IsIslandModeInRange Remove = Unit {0}
+IsIslandModeInRange Keep = Unit {0}
+IsIslandModeInRange (Below area) = area ≤ 1000000000000
+
 -- A zone of a board with so many layers: it is on one of them at least, and on no others. Its copper is from 0.001 mm to
 -- 100 mm thick, and its clearance, gap and bridge are at most 100 mm.
 pub record IsSoundZone (layers : ℕ) (z : Zone) : Type 0 where
@@ -85,6 +92,7 @@ pub record IsSoundZone (layers : ℕ) (z : Zone) : Type 0 where
   pub clearance : z.clearance ≤ 100000000
   pub gap : z.gap ≤ 100000000
   pub bridge : z.bridge ≤ 100000000
+  pub islands : IsIslandModeInRange z.islands
   pub layered : (l : ℕ) × (l < layers) × (has_layer z.layers l ≡ true)
   pub among : z.layers < 2 ^ layers
   pub outline : IsSoundOutline z.outline
@@ -100,7 +108,8 @@ pub record IsSoundBoardEdge (e : Edge) : Type 0 where
   pub from : IsPlaceInReach e.from
   pub to : IsPlaceInReach e.to
 
--- at most 32 copper layers, 2,000 zones and rule areas together, and 200,000 things, nets counted in; and each of them as it is to be
+-- at most 32 copper layers, 2,000 zones and rule areas together, and 200,000 things, nets counted in; each of them as it is to
+-- be, and so the clearances of the whole board
 pub record IsSoundBoard (b : Board) : Type 0 where
   pub layers : length b.layers ≤ 32
   pub outlines : length b.zones + length b.areas ≤ 2000
@@ -111,3 +120,4 @@ pub record IsSoundBoard (b : Board) : Type 0 where
   pub vias : All (IsSoundVia (length b.layers)) b.vias
   pub pads : All (IsSoundPad (length b.layers)) b.pads
   pub edges : All IsSoundBoardEdge b.edges
+  pub rules : AreSoundRules b.rules

@@ -7,7 +7,7 @@ use Rattle.board_model.specs.Run.{AreRead, IsStop, in_the_footprint}
 use Rattle.board_items.specs.Known.{context}
 use Rattle.board_model.proofs.Running.{err_kept, read_none}
 use Rattle.board_model.proofs.Parts.{all_of, next_read, stop_read, all_read, bytes_are, items_are, each_alone}
-use Rattle.board_model.proofs.reading.ReadSoFar.read_footprint.Goals as goal
+use Rattle.board_model.proofs.reading.ReadSoFar.read_all_own.Goals as goal
 
 pub each-init : goal.each-init
 each-init c = record { read = read_none (context c.args.footprint.now.bytes c.args.known.now) c.args.self.now; text = c.requires.text }

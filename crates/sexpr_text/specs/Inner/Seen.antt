@@ -1,10 +1,10 @@
 -- What the walk to a fault keeps, as its code keeps it, and the kinds that it tells.
 use Rattle.std.specs.Prelude.{ℕ, zero, suc, ◌≤◌, ◌==◌, ◌||◌, not, cond, Option, Some, None}
 use Rattle.sexpr_text.specs.Grammar.{is_space}
-use Rattle.sexpr_text.specs.Cut.{Cut}
-use Rattle.sexpr_text.specs.Cut.Cut.{Full, Next, Broken}
-use Rattle.sexpr_text.specs.Spot.{TextSpot}
-use Rattle.sexpr_text.specs.Spot.TextSpot.{Before, Inside, Quoted, Behind, Lost}
+use Rattle.sexpr_text.specs.Inner.Cut.{Cut}
+use Rattle.sexpr_text.specs.Inner.Cut.Cut.{Full, Next, Broken}
+use Rattle.sexpr_text.specs.Inner.Spot.{TextSpot}
+use Rattle.sexpr_text.specs.Inner.Spot.TextSpot.{Before, Inside, Quoted, Behind, Lost}
 use Rattle.sexpr_text.specs.declared.cut.Cutting.{Cutting}
 use Rattle.sexpr_text.specs.declared.cut.Cutting.TheVariants.{Whole, Wants, Bad}
 use Rattle.sexpr_text.specs.declared.stand.Stand.{Stand}
@@ -12,6 +12,7 @@ use Rattle.sexpr_text.specs.declared.stand.Stand.TheVariants.{Start, List, Text,
 use Rattle.sexpr_text.specs.declared.error.TextKind.{TextKind}
 use Rattle.sexpr_text.specs.declared.error.TextKind.TheVariants as kinds
 
+-- where the code stands in a text
 abbrev pub seen : Stand → TextSpot
 seen Start = Before
 seen (List room) = Inside room
@@ -19,11 +20,13 @@ seen (Text room escaped) = Quoted room escaped
 seen End = Behind
 seen Off = Lost
 
+-- lists may go at most 63 deeper than the outermost one
 abbrev pub is_room : Stand → Type 0
 is_room (List room) = room ≤ 63
 is_room (Text room escaped) = room ≤ 63
 is_room other = Unit {0}
 
+-- where the code stands in a character
 abbrev pub seen_cut : Cutting → Cut
 seen_cut Whole = Full
 seen_cut (Wants low high left) = Next low high left

@@ -7,6 +7,7 @@ use Rattle.sexpr_text.specs.declared.store.Node.{Node}
 abbrev pub shown : List ℕ → Node → Shown
 shown numbers n = record { kind = n.kind; from = n.from; to = n.to; children = slice_range numbers n.first_child n.children_end }
 
+-- all nodes with their children
 abbrev pub all_shown : List ℕ → List Node → List Shown
 all_shown numbers nodes = map (shown numbers) nodes
 

@@ -2,7 +2,7 @@ use Rattle.std.proofs.Common.{◌≡◌, take, ◌∷◌, []}
 use Rattle.board_items.specs.Known.{context}
 use Rattle.board_model.specs.Run.{AreRead, in_the_footprint}
 use Rattle.board_model.proofs.Parts.{all_of}
-use Rattle.board_model.proofs.reading.ReadSoFar.read_footprint.Given as goal
+use Rattle.board_model.proofs.reading.ReadSoFar.read_all_own.Given as goal
 
 -- the lists before this one were read
 abbrev pub invariant-each : goal.invariant-each
