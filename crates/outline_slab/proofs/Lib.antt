@@ -14,3 +14,5 @@ pub mod Simple
 pub mod Frames
 pub mod Exchanged
 pub mod Wide
+pub mod Filled
+pub mod LeftOver

@@ -16,7 +16,7 @@ use Rattle.slabs.proofs.Closed.{chain_law}
 use Rattle.slabs.proofs.Cutting.{one_is}
 use Rattle.slabs.proofs.Order.{all_head, all_tail}
 use Rattle.slabs.proofs.Outside.{ends_all}
-use Rattle.outline_slab.specs.Rules.{IsSide, IsSimple, IsKeptOutline, IsPointWithin, AreCrossing, NoneCrossing, edge, no_edge}
+use Rattle.outline_slab.specs.Rules.{IsSide, IsSimple, IsKeptOutline, IsPointWithin, IsInSpan, AreCrossing, NoneCrossing, edge, no_edge}
 use Rattle.outline_slab.specs.Cuts.{IsSoundEdge}
 use Rattle.outline_slab.proofs.Chain.{edges_length}
 
@@ -90,6 +90,15 @@ near_more n m z h a = record { low = omega (arith, ints, h, a.low); high = omega
 
 reach_of : (p : Point) → IsPointWithin 250000000 p → IsInReach p
 reach_of p w = record { x = near_more 250000000 _ p.x (omega arith) w.x; y = near_more 250000000 _ p.y (omega arith) w.y }
+
+pub all_reached : (cs : List Point) → All (IsPointWithin 250000000) cs → All IsInReach cs
+all_reached cs all = λ i d h. reach_of (get_or cs i d) (all i d h)
+
+span_of : (p : Point) → IsPointWithin 250000000 p → IsInSpan p
+span_of p w = record { x = near_more 250000000 _ p.x (omega arith) w.x; y = near_more 250000000 _ p.y (omega arith) w.y }
+
+pub all_in_span : (cs : List Point) → All (IsPointWithin 250000000) cs → All IsInSpan cs
+all_in_span cs all = λ i d h. span_of (get_or cs i d) (all i d h)
 
 pub sound_chain : (cs : List Point) → IsKeptOutline cs → All IsSoundEdge (edges_of cs)
 sound_chain cs k = λ i d h.

@@ -13,6 +13,7 @@ use Rattle.octagon.specs.Bounded.{AreInRange}
 use Rattle.slabs.specs.Outside.{IsFrame, IsAtMost}
 use Rattle.outline_slab.specs.Rules.{IsPointWithin}
 use Rattle.outline_slab.specs.Cuts.{IsWithinHalfMetre}
+use Rattle.outline_slab.specs.Inner.Kept.{IsFrameKept}
 
 abbrev wide : Bounds
 wide = box_of (neg_ℤ (pos 250000000)) (pos 250000000) (neg_ℤ (pos 250000000)) (pos 250000000)
@@ -182,3 +183,11 @@ round_least cs f c o l r t b tight least e is oct same d frame =
       top = omega (arith, ints, y0.y_low, et);
       bottom = omega (arith, ints, y1.y_high, eb);
     })
+
+-- ---- what is kept as the frame
+pub frame_kept : (cs slice : List Point) (f : Bounds) → slice ≡ cs → All (IsPointWithin 250000000) cs → All (λ q. Within f q.x q.y) slice
+    → ((b : Bounds) (p : PlanePoint) → All (λ q. Within b q.x q.y) slice → In f p → In b p) → IsOct f → IsFrameKept cs f
+frame_kept cs slice f e within holds least oct =
+    let at : All (λ q. Within f q.x q.y) cs = subst (λ (q : List Point). All (λ v. Within f v.x v.y) q) e holds in
+    let under : (b : Bounds) (p : PlanePoint) → All (λ q. Within b q.x q.y) cs → In f p → In b p = subst (λ (q : List Point). (b : Bounds) (p : PlanePoint) → All (λ v. Within b v.x v.y) q → In f p → In b p) e least in
+    record { holds = at; least = under; oct = oct; near = frame_nearby cs f within oct.tight under }

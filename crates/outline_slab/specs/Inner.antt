@@ -1,3 +1,5 @@
 pub mod Exchange
+pub mod Kept
 pub mod Search
 pub mod Side
+pub mod Wide

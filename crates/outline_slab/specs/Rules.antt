@@ -1,6 +1,6 @@
 -- When a closed chain of corners is an outline. Edge i runs from corner i to the next one, the last edge to the first
 -- corner.
-use Rattle.std.specs.Prelude.{◌≡◌, ℕ, suc, ◌<◌, ◌≤◌, ◌⊎◌, ℤ, pos, ◌+ℤ◌, List, length, slice_index_or}
+use Rattle.std.specs.Prelude.{◌≡◌, ℕ, suc, ◌<◌, ◌≤◌, ◌⊎◌, ℤ, ◌+ℤ◌, List, length, slice_index_or}
 use Rattle.std.specs.List.{All}
 use Rattle.plane.specs.Plane.{PlanePoint, IsSame, grid_point}
 use Rattle.plane.specs.Narrow.{IsNearZero}

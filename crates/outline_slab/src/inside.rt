@@ -4,10 +4,11 @@ ghost use Rattle.std.specs.List.{All};
 ghost use Rattle.plane.specs.Plane.{Bounds, IsOct, box_of};
 ghost use Rattle.plane.specs.Narrow.{IsNearZero};
 ghost use Rattle.octagon.specs.Bounded.{bounds_of};
-ghost use Rattle.plane.specs.Covering.{Covers, edges_of};
+ghost use Rattle.plane.specs.Covering.{Covers, StrictlyCovers, edges_of};
 ghost use Rattle.plane.specs.Corners.{box_corners};
 ghost use Rattle.slabs.specs.Outside.{IsFrame, IsAtMost, IsOutside};
 ghost use Rattle.outline_slab.specs.Cuts.{all_edges, IsWithinHalfMetre, HaveJust};
+ghost use Rattle.outline_slab.specs.Filled.{AreFilling, IsLeftOver};
 
 use crate::Outline;
 use crate::side::{Side, edge_at};
@@ -17,9 +18,11 @@ use octagon::Oct;
 use std::alloc::Global;
 
 impl Outline {
-    /// Octagons of just the points of the plane that the outline covers, its edges counted in.
+    /// Octagons of just the points of the plane that the outline covers, its edges counted in. Each point off the edges
+    /// lies in one that isn't flat.
     pub fn inner(&self, alloc: Global) -> Result<Vec<Oct>, Memory>
         ensures points { IfOk result (λ v. HaveJust v.items (Covers (edges_of self.now))) }
+        ensures filling { IfOk result (λ v. AreFilling v.items (StrictlyCovers (edges_of self.now))) }
         ensures octs { IfOk result (λ v. All IsOct v.items) }
     {
         let sides = with_sides(self.vertices.as_slice(), Vec::new(alloc))?;
@@ -40,10 +43,11 @@ impl Outline {
     }
 
     /// Octagons of just the points of the frame, a rectangle round the outline, that the outline doesn't cover, the
-    /// outline's edges counted in.
+    /// outline's edges counted in. Each point off these edges lies in one that isn't flat.
     pub fn outer(&self, alloc: Global, frame: &Oct) -> Result<Vec<Oct>, Memory>
         requires { IsFrame self.now frame.now }
         ensures points { IfOk result (λ v. HaveJust v.items (IsOutside (edges_of self.now) frame.now)) }
+        ensures filling { IfOk result (λ v. AreFilling v.items (IsLeftOver (edges_of self.now) frame.now)) }
         ensures octs { IfOk result (λ v. All IsOct v.items) }
     {
         let sides = with_sides(self.vertices.as_slice(), Vec::new(alloc))?;

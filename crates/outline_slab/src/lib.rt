@@ -32,18 +32,20 @@ use std::marker::Model;
 #[derive(Debug, Drop)]
 pub struct Outline {
     vertices: Vec<Point>,
+    frame: Oct,
 }
 
 impl Model for Outline {
     ghost use Rattle.std.specs.Prelude.{List};
     ghost use Rattle.grid_num.specs.declared.Point.{Point};
     ghost use Rattle.outline_slab.specs.Rules.{IsKeptOutline};
+    ghost use Rattle.outline_slab.specs.Inner.Kept.{IsFrameKept};
 
     ghost Value = { List Point };
 
     ghost view = { λ a. a.vertices.items };
 
-    ghost invariant = { λ a. IsKeptOutline a.vertices.items };
+    ghost invariant = { λ a. IsKeptOutline a.vertices.items × IsFrameKept a.vertices.items a.frame };
 }
 
 impl Outline {
@@ -63,6 +65,6 @@ impl Outline {
         ensures oct { IsOct result }
         ensures near { IsWithinHalfMetre result }
     {
-        Oct::of_points(self.vertices.as_slice())
+        self.frame
     }
 }

@@ -13,6 +13,7 @@ use crate::error::{OutlineError, OutlineFault};
 use crate::side::{both, side_at};
 use crate::sweep::least_pair;
 use grid_num::{Memory, Point};
+use octagon::Oct;
 use std::alloc::Global;
 
 impl Outline {
@@ -35,8 +36,11 @@ impl Outline {
         if let Some((first, second)) = least_pair(alloc, vertices)? {
             return Err(OutlineError::Bad(OutlineFault::Crossing { first, second }));
         }
+        let units = all_halved(alloc, vertices)?;
+        let frame = Oct::of_points(units.as_slice());
         Ok(Outline {
-            vertices: all_halved(alloc, vertices)?,
+            vertices: units,
+            frame,
         })
     }
 }

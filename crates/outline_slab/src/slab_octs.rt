@@ -1,11 +1,13 @@
 // The octagons of slabs: between the first cut of a slab and the second, the third and the fourth, ..
 ghost use Rattle.std.specs.Prelude.{◌≡◌, ◌⊎◌, ◌↔◌, IfOk};
 ghost use Rattle.std.specs.List.{All};
-ghost use Rattle.plane.specs.Plane.{PlanePoint, In, IsOct};
-ghost use Rattle.plane.specs.Covering.{IsOn, Covers};
+ghost use Rattle.plane.specs.Plane.{PlanePoint, In, StrictlyIn, IsOct};
+ghost use Rattle.plane.specs.Covering.{IsOn, Covers, StrictlyCovers};
 ghost use Rattle.slabs.specs.Slabs.{IsAmid, IsInPair, IsOnLevel, AreClosed, starts};
 ghost use Rattle.outline_slab.specs.Inner.Side.{side_edge};
 ghost use Rattle.outline_slab.specs.Cuts.{all_edges, IsSoundEdge, AreTwo, ArePaired, IsInSome, HaveJust};
+ghost use Rattle.outline_slab.specs.Filled.{AreFilling};
+ghost use Rattle.outline_slab.specs.Inner.Wide.{IsWide, IsInWidePair, KeepStout};
 
 use crate::cuts::{cuts_of, in_order};
 use crate::side::Side;
@@ -18,6 +20,7 @@ use std::alloc::Global;
 fn amid(left: Side, right: Side) -> Oct
     requires { AreTwo (side_edge left) (side_edge right) }
     ensures points { (p : PlanePoint) → In result p ↔ IsAmid (side_edge left) (side_edge right) p }
+    ensures wide { IsWide (side_edge left) (side_edge right) → (q : PlanePoint) × StrictlyIn result q }
     ensures oct { IsOct result }
 {
     Oct::of_points(&[left.start, right.start, left.finish, right.finish])
@@ -27,6 +30,7 @@ fn amid(left: Side, right: Side) -> Oct
 fn pair_octs(alloc: Global, cuts: &[Side]) -> Result<Vec<Oct>, Memory>
     requires { ArePaired (all_edges cuts.now) }
     ensures points { IfOk result (λ v. HaveJust v.items (IsInPair (all_edges cuts.now))) }
+    ensures wide { IfOk result (λ v. AreFilling v.items (IsInWidePair (all_edges cuts.now))) }
     ensures octs { IfOk result (λ v. All IsOct v.items) }
 {
     let pairs = cuts.len() / 2;
@@ -51,6 +55,7 @@ fn with_level(side: Side, octs: Vec<Oct>) -> Result<Vec<Oct>, Memory>
     requires sound { IsSoundEdge (side_edge side) }
     requires octs { All IsOct octs.items }
     ensures points { IfOk result (λ v. (p : PlanePoint) → IsInSome v.items p ↔ (IsInSome octs.items p ⊎ ((side.start.y ≡ side.finish.y) × IsOn (side_edge side) p))) }
+    ensures kept { IfOk result (λ v. KeepStout octs.items v.items) }
     ensures octs { IfOk result (λ v. All IsOct v.items) }
 {
     let mut octs = octs;
@@ -66,6 +71,7 @@ fn with_levels(sides: &[Side], octs: Vec<Oct>) -> Result<Vec<Oct>, Memory>
     requires sound { All IsSoundEdge (all_edges sides.now) }
     requires octs { All IsOct octs.items }
     ensures points { IfOk result (λ v. (p : PlanePoint) → IsInSome v.items p ↔ (IsInSome octs.items p ⊎ IsOnLevel (all_edges sides.now) p)) }
+    ensures kept { IfOk result (λ v. KeepStout octs.items v.items) }
     ensures octs { IfOk result (λ v. All IsOct v.items) }
 {
     let mut octs = octs;
@@ -75,11 +81,12 @@ fn with_levels(sides: &[Side], octs: Vec<Oct>) -> Result<Vec<Oct>, Memory>
     Ok(octs)
 }
 
-/// Octagons of just the points that closed sides cover.
+/// Octagons of just the points that closed sides cover. The flat ones among them stand for level sides alone.
 pub fn covered_octs(alloc: Global, sides: &[Side]) -> Result<Vec<Oct>, Memory>
     requires closed { AreClosed (starts (all_edges sides.now)) (all_edges sides.now) }
     requires sound { All IsSoundEdge (all_edges sides.now) }
     ensures points { IfOk result (λ v. HaveJust v.items (Covers (all_edges sides.now))) }
+    ensures filling { IfOk result (λ v. AreFilling v.items (StrictlyCovers (all_edges sides.now))) }
     ensures octs { IfOk result (λ v. All IsOct v.items) }
 {
     let rows = rows_of_ends(alloc, sides)?;

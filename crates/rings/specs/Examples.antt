@@ -5,12 +5,15 @@ use Rattle.plane.specs.Covering.{Edge, edges_of}
 use Rattle.rings.specs.Loops.{Loop, AreLoopsOf}
 use Rattle.rings.specs.Rings.{AreRingsOf}
 
+-- a corner
 abbrev pub corner_at : ℤ → ℤ → Point
 corner_at x y = record { x = x; y = y }
 
+-- a loop with copper inside
 abbrev pub outer : List Point → Loop
 outer cs = record { corners = cs; hole = false }
 
+-- a loop with copper outside
 abbrev pub hole : List Point → Loop
 hole cs = record { corners = cs; hole = true }
 
@@ -20,16 +23,19 @@ zone_corners =
     corner_at (pos 73222) (pos 0) ∷ corner_at (pos 9926778) (pos 0) ∷ corner_at (pos 10000000) (pos 73222) ∷ corner_at (pos 10000000) (pos 9926778) ∷ corner_at (pos 9926778) (pos 10000000)
     ∷ corner_at (pos 73222) (pos 10000000) ∷ corner_at (pos 0) (pos 9926778) ∷ corner_at (pos 0) (pos 73222) ∷ []
 
+-- the gap round the via
 abbrev pub via_corners : List Point
 via_corners =
     corner_at (pos 4792890) (pos 4500000) ∷ corner_at (pos 4500000) (pos 4792890) ∷ corner_at (pos 4500000) (pos 5207110) ∷ corner_at (pos 4792890) (pos 5500000)
     ∷ corner_at (pos 5207110) (pos 5500000) ∷ corner_at (pos 5500000) (pos 5207110) ∷ corner_at (pos 5500000) (pos 4792890) ∷ corner_at (pos 5207110) (pos 4500000) ∷ []
 
+-- the zone's corners and the place at which its upper edge is cut
 abbrev pub cut_corners : List Point
 cut_corners =
     corner_at (pos 73222) (pos 0) ∷ corner_at (pos 5000000) (pos 0) ∷ corner_at (pos 9926778) (pos 0) ∷ corner_at (pos 10000000) (pos 73222) ∷ corner_at (pos 10000000) (pos 9926778)
     ∷ corner_at (pos 9926778) (pos 10000000) ∷ corner_at (pos 73222) (pos 10000000) ∷ corner_at (pos 0) (pos 9926778) ∷ corner_at (pos 0) (pos 73222) ∷ []
 
+-- all boundary edges
 abbrev pub via_edges : List Edge
 via_edges = edges_of cut_corners ++ edges_of via_corners
 
@@ -37,6 +43,7 @@ via_edges = edges_of cut_corners ++ edges_of via_corners
 abbrev pub via_loops : List Loop
 via_loops = outer zone_corners ∷ hole via_corners ∷ []
 
+-- that ring
 abbrev pub via_ring : List Point
 via_ring =
     corner_at (pos 73222) (pos 0) ∷ corner_at (pos 9926778) (pos 0) ∷ corner_at (pos 10000000) (pos 73222) ∷ corner_at (pos 10000000) (pos 9926778) ∷ corner_at (pos 9926778) (pos 10000000)
@@ -53,9 +60,11 @@ via_ring =
 abbrev pub first_square : List Point
 first_square = corner_at (pos 0) (pos 0) ∷ corner_at (pos 2) (pos 0) ∷ corner_at (pos 2) (pos 2) ∷ corner_at (pos 0) (pos 2) ∷ []
 
+-- the lower one
 abbrev pub second_square : List Point
 second_square = corner_at (pos 2) (pos 2) ∷ corner_at (pos 4) (pos 2) ∷ corner_at (pos 4) (pos 4) ∷ corner_at (pos 2) (pos 4) ∷ []
 
+-- the edges of both
 abbrev pub square_edges : List Edge
 square_edges = edges_of first_square ++ edges_of second_square
 
@@ -67,18 +76,23 @@ square_edges = edges_of first_square ++ edges_of second_square
 abbrev pub frame_corners : List Point
 frame_corners = corner_at (pos 0) (pos 0) ∷ corner_at (pos 10) (pos 0) ∷ corner_at (pos 10) (pos 6) ∷ corner_at (pos 0) (pos 6) ∷ []
 
+-- the left hole
 abbrev pub left_hole : List Point
 left_hole = corner_at (pos 2) (pos 2) ∷ corner_at (pos 2) (pos 4) ∷ corner_at (pos 4) (pos 4) ∷ corner_at (pos 4) (pos 2) ∷ []
 
+-- the right one
 abbrev pub right_hole : List Point
 right_hole = corner_at (pos 6) (pos 2) ∷ corner_at (pos 6) (pos 4) ∷ corner_at (pos 8) (pos 4) ∷ corner_at (pos 8) (pos 2) ∷ []
 
+-- the edges of all three
 abbrev pub pair_edges : List Edge
 pair_edges = edges_of frame_corners ++ (edges_of left_hole ++ edges_of right_hole)
 
+-- three loops
 abbrev pub pair_loops : List Loop
 pair_loops = outer frame_corners ∷ hole left_hole ∷ hole right_hole ∷ []
 
+-- and one ring
 abbrev pub pair_ring : List Point
 pair_ring =
     corner_at (pos 0) (pos 0) ∷ corner_at (pos 10) (pos 0) ∷ corner_at (pos 10) (pos 6) ∷ corner_at (pos 0) (pos 6) ∷ corner_at (pos 0) (pos 2) ∷ corner_at (pos 2) (pos 2) ∷ corner_at (pos 2) (pos 4)
@@ -95,6 +109,7 @@ bay_corners =
     corner_at (pos 0) (pos 0) ∷ corner_at (pos 6) (pos 0) ∷ corner_at (pos 6) (pos 6) ∷ corner_at (pos 0) (pos 6) ∷ corner_at (pos 0) (pos 3) ∷ corner_at (pos 1) (pos 4) ∷ corner_at (pos 2) (pos 3)
     ∷ corner_at (pos 1) (pos 2) ∷ corner_at (pos 0) (pos 3) ∷ []
 
+-- its edges
 abbrev pub bay_edges : List Edge
 bay_edges = edges_of bay_corners
 

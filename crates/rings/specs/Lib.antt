@@ -5,6 +5,7 @@ pub mod Slits
 pub mod Rings
 pub mod Boundary
 pub mod Sheets
+pub mod Outlines
 pub mod Laws
 pub mod Examples
 pub mod Inner

@@ -1,5 +1,5 @@
 -- Rings: what is written of a fill. A ring goes along an outer loop, and by slits along the holes in it.
-use Rattle.std.specs.Prelude.{ℕ, List, ◌++◌, map}
+use Rattle.std.specs.Prelude.{ℕ, List, [], ◌++◌, map}
 use Rattle.std.specs.List.{All, AllZip, filter}
 use Rattle.grid_num.specs.declared.Point.{Point}
 use Rattle.grid_num.specs.Length.{IsInRange}
@@ -34,3 +34,7 @@ IsRingInRange corners = All (λ corner. IsInRange corner.x × IsInRange corner.y
 pub record Traced : Type 0 where
   pub rings : List (List Point)
   pub area2 : ℕ
+
+-- what stands past the last fill: no rings
+abbrev pub not_traced : Traced
+not_traced = record { rings = []; area2 = 0 }

@@ -39,7 +39,7 @@ ends_all P (a ∷ cs) all = to_all P a a cs (all_head P a cs all) (all_head P a 
 
 -- ---- where an edge is crossed
 -- the row of p is between the ends, and one of them is left of p
-abbrev IsCrossed : Edge → PlanePoint → Type 0
+abbrev pub IsCrossed : Edge → PlanePoint → Type 0
 IsCrossed e p =
     ((((pos p.scale *ℤ e.start.y) ≤ℤ p.y) × (p.y <ℤ (pos p.scale *ℤ e.finish.y))) ⊎ (((pos p.scale *ℤ e.finish.y) ≤ℤ p.y) × (p.y <ℤ (pos p.scale *ℤ e.start.y))))
     × (((pos p.scale *ℤ e.start.x) <ℤ p.x) ⊎ ((pos p.scale *ℤ e.finish.x) <ℤ p.x))
@@ -78,7 +78,7 @@ crossed_at e p o =
     (λ u. other_way e p (crossed_down (turned_back e) p (turned_octilinear e o) u))
     (λ u. inl (level_none e p (omega (arith, ints)))))
 
-none_crossed : (es : List Edge) (p : PlanePoint) → AreOctilinear es → All (λ e. IsCrossed e p → ⊥) es → sum_by (crossing p) es ≡ 0
+pub none_crossed : (es : List Edge) (p : PlanePoint) → AreOctilinear es → All (λ e. IsCrossed e p → ⊥) es → sum_by (crossing p) es ≡ 0
 unfolding AreOctilinear
 none_crossed [] p o all = refl
 none_crossed (e ∷ es) p o all =

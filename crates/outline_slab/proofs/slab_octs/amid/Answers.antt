@@ -3,6 +3,7 @@ use Rattle.plane.specs.Plane.{Bounds, Within}
 use Rattle.grid_num.specs.declared.Point.{Point}
 use Rattle.slabs.proofs.Amid.{amid_law}
 use Rattle.outline_slab.specs.Inner.Side.{side_edge}
+use Rattle.outline_slab.proofs.Filled.{wide_inside}
 use Rattle.outline_slab.proofs.slab_octs.amid.Goals as goal
 
 four : (a b d e : Point) (c : Bounds) → Within c a.x a.y → Within c b.x b.y → Within c d.x d.y → Within c e.x e.y
@@ -26,3 +27,10 @@ returns-clause-points c = λ p.
       lower_right = h 3 l.start (omega arith);
       least = λ b q w x y z i. c.of_points.ensures.least b q (λ k d m. four l.start r.start l.finish r.finish b w x y z k d (omega arith)) i;
     })
+
+pub returns-clause-wide : goal.returns-clause-wide
+returns-clause-wide c = λ wide.
+    let l = c.args.left in
+    let h = c.of_points.ensures.holds in
+    wide_inside (side_edge l) (side_edge c.args.right) c.of_points.result (h 0 l.start (omega arith)) (h 1 l.start (omega arith)) (h 2 l.start (omega arith)) (h 3 l.start (omega arith))
+    c.requires.left.down c.requires.framed wide

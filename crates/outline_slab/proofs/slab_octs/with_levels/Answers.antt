@@ -10,6 +10,7 @@ with_level-requires-clause-sound c = read_fact IsSoundEdge c.args.sides.now c.ea
 pub each-preserved : goal.each-preserved
 each-preserved c = record {
   points = λ p. levels_more c.args.sides.now c.each.i _ c.args.octs.items c.each.octs.items c.in_ok-octs.octs.items p c.each-test.true (c.each.invariant.points p) (c.in_ok-octs.ensures.points p);
+  kept = λ p a. c.in_ok-octs.ensures.kept p (c.each.invariant.kept p a);
   octs = c.in_ok-octs.ensures.octs;
 }
 
