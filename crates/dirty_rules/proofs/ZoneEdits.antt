@@ -9,14 +9,15 @@ use Rattle.hulls.specs.Cells.{around}
 use Rattle.classes.specs.Classes.{IsOneOf}
 use Rattle.board_language.specs.declared.board.Rules.{Rules}
 use Rattle.board_language.specs.Board.{Board}
-use Rattle.fill_rules.specs.Tasks.{Task, Settings, settings_of, no_zone, no_task, has_layer, task_zone, ranked, task_at, zone_at, layer_at}
+use Rattle.board_language.specs.Copper.{has_layer}
+use Rattle.fill_rules.specs.Tasks.{Task, Settings, settings_of, no_zone, no_task, task_zone, ranked, task_at, zone_at, layer_at}
 use Rattle.fill_rules.specs.Needs.{is_foreign, units, item_need, zone_need, Need, item_needs}
-use Rattle.fill_rules.specs.Anchors.{IsTouching, anchors_of}
+use Rattle.fill_rules.specs.Anchors.{anchors_of}
 use Rattle.fill_rules.specs.Reach.{IsReaching}
 use Rattle.fill_rules.specs.Dirty.{IsUntouched}
 use Rattle.fill_rules.specs.Edits.{unplaced, unplaced_via, AreAmong, Placing, placing, IsSameButZone}
 use Rattle.fill_rules.specs.Ranking.{IsTask, Outranks}
-use Rattle.fill_rules.proofs.Members.{map_one_of}
+use Rattle.board_language.proofs.Members.{map_one_of}
 use Rattle.fill_rules.proofs.SameTasks.{get_or_map, task_same}
 use Rattle.fill_rules.proofs.ZoneEdits.{HasSameItems, items_there, items_back, anchors_there, anchors_back, settings_law}
 use Rattle.dirty_rules.specs.Dirty.{IsRankOf, AreTasksInReach, IsZoneDirtying, layers_of, IsSameButPriority, AreOldRanks}

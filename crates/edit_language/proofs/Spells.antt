@@ -1,5 +1,5 @@
 -- The text that an edit makes of a list is one list again.
-use Rattle.std.proofs.Common.{◌≡◌, ◌∙◌, refl, ap, sym, subst, ℕ, ◌-◌, ◌<◌, List, [], ◌∷◌, ◌++◌, decimal, Option, None, Some, arith}
+use Rattle.std.proofs.Common.{◌≡◌, ◌∙◌, refl, ap, sym, subst, ℕ, ◌-◌, ◌<◌, Bool, true, false, cond, List, [], ◌∷◌, ◌++◌, decimal, Option, None, Some, arith}
 use Rattle.std.specs.Prelude.{codes, pos, suc, option_and_then}
 use Rattle.std.proofs.lemmas.Option.{none-some}
 use Rattle.grid_num.specs.declared.Point.{Point}
@@ -11,7 +11,7 @@ use Rattle.sexpr_text.specs.Items.{Item}
 use Rattle.sexpr_text.specs.Trees.{IsRoot}
 use Rattle.sexpr_text.specs.declared.NodeKind.TheVariants as kinds
 use Rattle.board_text.specs.Fields.{list_of}
-use Rattle.board_text.specs.Items.{tail_of}
+use Rattle.board_text.specs.Items.{tail_of, version_of}
 use Rattle.board_text.specs.Things.{Placed}
 use Rattle.board_language.specs.Zones.{span_or_none, spans_of}
 use Rattle.edit_language.specs.declared.edit.Edit.{Edit}
@@ -19,7 +19,7 @@ use Rattle.edit_language.specs.declared.edit.Edit.TheVariants.{Track, Via, Drop,
 use Rattle.edit_language.specs.declared.edit.EditRefusal.TheVariants.{NoStamp}
 use Rattle.edit_language.specs.Scripts.{IsPointInRange, IsSize, IsWholeNumber, IsFormed}
 use Rattle.board_language.specs.Stamps.{stamp_of, bearer_of}
-use Rattle.edit_language.specs.Splices.{Splice, list_text, point_list, length_list, whole_list, between_quotes, track_line, via_line, priority_by, priority_splice, clearance_by, clearance_splice, splice_of}
+use Rattle.edit_language.specs.Splices.{Splice, list_text, point_list, length_list, whole_list, between_quotes, has_uuids, stamp_text, track_line, via_line, priority_by, priority_splice, clearance_by, clearance_splice, splice_of}
 use Rattle.edit_language.specs.Edited.{edit_stamp, if_no_copper, if_no_zone, item_or, splice_in, stamp_refusal}
 use Rattle.edit_language.specs.SpellLaws.{SpellLaw}
 use Rattle.edit_language.proofs.Steady.{IsSteady, IsPlaceIn, IsNamed, steady_both, steady_nothing, steady_space, steady_line_end, steady_name, steady_quoted, steady_list, spliced_spells}
@@ -42,6 +42,13 @@ steady_whole room name n low h l = steady_list room name (decimal n ∷ []) low 
 steady_word : (room : ℕ) (name word : List ℕ) → room < 63 → IsNamed name → IsNamed word → IsSteady (suc room) (list_text name (word ∷ []))
 steady_word room name word low h w = steady_list room name (word ∷ []) low h (steady_name room word w, tt)
 
+steady_stamp : (version : ℕ) (stamp : List ℕ) → IsNamed stamp → IsSteady 62 (stamp_text version stamp)
+steady_stamp version stamp n = by_test (has_uuids version)
+  where
+    by_test : (b : Bool) → IsSteady 62 (cond b (list_text (codes "uuid") (between_quotes stamp ∷ [])) (list_text (codes "tstamp") (stamp ∷ [])))
+    by_test true = steady_list 61 (codes "uuid") (between_quotes stamp ∷ []) (omega arith) refl (steady_quoted 61 stamp n, tt)
+    by_test false = steady_word 61 (codes "tstamp") stamp (omega arith) refl n
+
 steady_line : (list : List ℕ) → IsSteady 63 list → IsSteady 63 (32 ∷ 32 ∷ (list ++ 10 ∷ []))
 steady_line list h =
     steady_both 63 (32 ∷ []) (32 ∷ (list ++ 10 ∷ [])) (steady_space 63)
@@ -50,10 +57,10 @@ steady_line list h =
 steady_spaced : (room : ℕ) (list : List ℕ) → IsSteady room list → IsSteady room (32 ∷ list)
 steady_spaced room list h = steady_both room (32 ∷ []) list (steady_space room) h
 
-steady_track : (from to : Point) (width : ℕ) (layer : List ℕ) (net : ℕ) (stamp : List ℕ) → IsFormed (Track from to width layer net stamp)
-    → IsSteady 63 (track_line from to width layer net stamp)
+steady_track : (version : ℕ) (from to : Point) (width : ℕ) (layer : List ℕ) (net : ℕ) (stamp : List ℕ) → IsFormed (Track from to width layer net stamp)
+    → IsSteady 63 (track_line version from to width layer net stamp)
 unfolding IsFormed track_line
-steady_track from to width layer net stamp f =
+steady_track version from to width layer net stamp f =
     steady_line _ (steady_list 62 (codes "segment") _ (omega arith) refl (
       steady_point 61 (codes "start") from (omega arith) refl f.0,
       (
@@ -65,7 +72,7 @@ steady_track from to width layer net stamp f =
             (
               steady_whole 61 (codes "net") net (omega arith) refl f.4,
               (
-                steady_word 61 (codes "tstamp") stamp (omega arith) refl (is_named stamp f.5),
+                steady_stamp version stamp (is_named stamp f.5),
                 tt,
               ),
             ),
@@ -74,10 +81,10 @@ steady_track from to width layer net stamp f =
       ),
     ))
 
-steady_via : (at : Point) (size drill : ℕ) (top bottom : List ℕ) (net : ℕ) (stamp : List ℕ) → IsFormed (Via at size drill top bottom net stamp)
-    → IsSteady 63 (via_line at size drill top bottom net stamp)
+steady_via : (version : ℕ) (at : Point) (size drill : ℕ) (top bottom : List ℕ) (net : ℕ) (stamp : List ℕ) → IsFormed (Via at size drill top bottom net stamp)
+    → IsSteady 63 (via_line version at size drill top bottom net stamp)
 unfolding IsFormed via_line
-steady_via at size drill top bottom net stamp f =
+steady_via version at size drill top bottom net stamp f =
     steady_line _ (steady_list 62 (codes "via") _ (omega arith) refl (
       steady_point 61 (codes "at") at (omega arith) refl f.0,
       (
@@ -89,7 +96,7 @@ steady_via at size drill top bottom net stamp f =
             (
               steady_whole 61 (codes "net") net (omega arith) refl f.5,
               (
-                steady_word 61 (codes "tstamp") stamp (omega arith) refl (is_named stamp f.6),
+                steady_stamp version stamp (is_named stamp f.6),
                 tt,
               ),
             ),
@@ -163,8 +170,8 @@ named_item text stamp root r h =
 spells : (text new : List ℕ) (root : Item) (edit : Edit) → IsRoot text root → IsFormed edit → stamp_refusal edit (stamp_of text root (edit_stamp edit)) ≡ None
     → IsDone text (splice_in text root edit) new → Spells new
 unfolding splice_in splice_of stamp_refusal priority_splice clearance_splice spans_of IsFormed
-spells text new root (Track from to width layer net stamp) r f h s = before_close text new _ root r (steady_track from to width layer net stamp f) s
-spells text new root (Via at size drill top bottom net stamp) r f h s = before_close text new _ root r (steady_via at size drill top bottom net stamp f) s
+spells text new root (Track from to width layer net stamp) r f h s = before_close text new _ root r (steady_track (version_of text root) from to width layer net stamp f) s
+spells text new root (Via at size drill top bottom net stamp) r f h s = before_close text new _ root r (steady_via (version_of text root) at size drill top bottom net stamp f) s
 spells text new root (Drop stamp) r f h s =
     in_place text new [] 63 root (item_or root (bearer_of text root stamp)) r (named_item text stamp root r (copper_named text stamp root h)) (steady_nothing 63) s
 spells text new root (Priority stamp value) r f h s =

@@ -12,10 +12,10 @@ use Rattle.sexpr_text.specs.Items.{Item, items_of, is_headed}
 use Rattle.sexpr_text.specs.Trees.{IsRoot}
 use Rattle.sexpr_text.specs.declared.NodeKind.{NodeKind}
 use Rattle.sexpr_text.specs.declared.NodeKind.TheVariants as kinds
-use Rattle.sexpr_text.specs.Spot.{TextSpot, step, text_spot}
-use Rattle.sexpr_text.specs.Spot.TextSpot.{Before, Inside, Quoted, Behind, Lost}
-use Rattle.sexpr_text.specs.Cut.{Cut, lead, cut_step, follows, cuts}
-use Rattle.sexpr_text.specs.Cut.Cut.{Full, Next, Broken}
+use Rattle.sexpr_text.specs.Inner.Spot.{TextSpot, step, text_spot}
+use Rattle.sexpr_text.specs.Inner.Spot.TextSpot.{Before, Inside, Quoted, Behind, Lost}
+use Rattle.sexpr_text.specs.Inner.Cut.{Cut, lead, cut_step, follows, cuts}
+use Rattle.sexpr_text.specs.Inner.Cut.Cut.{Full, Next, Broken}
 use Rattle.sexpr_text.proofs.Spots.{next, stays, other_than, space_before, space_inside, space_behind, white_inside, word_over, string_over, opened_some, closed_some, items_over}
 use Rattle.sexpr_text.proofs.Cuts.{lead1}
 use Rattle.sexpr_text.proofs.CutLaws.{cuts-append, broken_on, utf8_whole}

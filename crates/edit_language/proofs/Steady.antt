@@ -7,10 +7,10 @@ use Rattle.std.proofs.Math.Seq.{take-append_seam}
 use Rattle.std.specs.Str.{IsUtf8}
 use Rattle.text_splices.specs.Splice.{IsSplice}
 use Rattle.sexpr_text.specs.Grammar.{Forest, Spelt, is_word}
-use Rattle.sexpr_text.specs.Spot.{TextSpot, step, text_spot, closed}
-use Rattle.sexpr_text.specs.Spot.TextSpot.{Inside, Quoted, Behind}
-use Rattle.sexpr_text.specs.Cut.{lead, cuts}
-use Rattle.sexpr_text.specs.Cut.Cut.{Full}
+use Rattle.sexpr_text.specs.Inner.Spot.{TextSpot, step, text_spot, closed}
+use Rattle.sexpr_text.specs.Inner.Spot.TextSpot.{Inside, Quoted, Behind}
+use Rattle.sexpr_text.specs.Inner.Cut.{lead, cuts}
+use Rattle.sexpr_text.specs.Inner.Cut.Cut.{Full}
 use Rattle.sexpr_text.specs.Faults.{IsUtf8Front}
 use Rattle.sexpr_text.proofs.Spots.{word_inside, spelt_behind}
 use Rattle.sexpr_text.proofs.Finish.{run, spot_local, spot_run}

@@ -62,10 +62,15 @@ piece from to put = record { from = from; to = to; put = put }
 
 -- what these edits put into a text, and where
 pub record SpliceRows : Type 0 where
-  pub track : put_before_close (span_at 0 902) (track_line (at 8000000 5000000) (at 9000000 5000000) 250000 (codes "F.Cu") 3 (codes "t9"))
+  pub track : put_before_close (span_at 0 902) (track_line 20221018 (at 8000000 5000000) (at 9000000 5000000) 250000 (codes "F.Cu") 3 (codes "t9"))
       ≡ piece 901 901 (codes "  (segment (start 8 5) (end 9 5) (width 0.25) (layer \"F.Cu\") (net 3) (tstamp t9))\n")
-  pub via : put_before_close (span_at 0 902) (via_line (at 1000000 5000000) 600000 300000 (codes "F.Cu") (codes "B.Cu") 1 (codes "v1"))
+  -- above that version a stamp is a `uuid`, between quotes
+  pub newer_track : put_before_close (span_at 0 902) (track_line 20221019 (at 8000000 5000000) (at 9000000 5000000) 250000 (codes "F.Cu") 3 (codes "t9"))
+      ≡ piece 901 901 (codes "  (segment (start 8 5) (end 9 5) (width 0.25) (layer \"F.Cu\") (net 3) (uuid \"t9\"))\n")
+  pub via : put_before_close (span_at 0 902) (via_line 20211014 (at 1000000 5000000) 600000 300000 (codes "F.Cu") (codes "B.Cu") 1 (codes "v1"))
       ≡ piece 901 901 (codes "  (via (at 1 5) (size 0.6) (drill 0.3) (layers \"F.Cu\" \"B.Cu\") (net 1) (tstamp v1))\n")
+  pub newer_via : put_before_close (span_at 0 902) (via_line 20241231 (at 1000000 5000000) 600000 300000 (codes "F.Cu") (codes "B.Cu") 1 (codes "v1"))
+      ≡ piece 901 901 (codes "  (via (at 1 5) (size 0.6) (drill 0.3) (layers \"F.Cu\" \"B.Cu\") (net 1) (uuid \"v1\"))\n")
   pub drop : take_out (span_at 820 899) ≡ piece 820 899 []
   pub priority : priority_splice (zone_with (Some (span_at 300 312)) None None 500) 2 ≡ piece 300 312 (codes "(priority 2)")
   pub new_priority : priority_splice (zone_with None None None 500) 2 ≡ piece 500 500 (codes " (priority 2)")

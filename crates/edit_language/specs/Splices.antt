@@ -1,12 +1,12 @@
 -- Which piece of a board's text an edit takes out, and what it puts in.
-use Rattle.std.specs.Prelude.{ℕ, ◌-◌, List, [], ◌∷◌, ◌++◌, codes, pos, Option, None, Some}
+use Rattle.std.specs.Prelude.{ℕ, ◌-◌, Bool, nat_lt, cond, List, [], ◌∷◌, ◌++◌, codes, pos, Option, None, Some}
 use Rattle.std.specs.Fmt.{decimal}
 use Rattle.grid_num.specs.declared.Point.{Point}
 use Rattle.grid_num.specs.Written.{mm_of}
 use Rattle.sexpr_text.specs.Items.{Item}
 use Rattle.sexpr_text.specs.declared.Span.{Span}
 use Rattle.board_language.specs.declared.board.ZoneSpans.{ZoneSpans}
-use Rattle.board_text.specs.Items.{span_of}
+use Rattle.board_text.specs.Items.{span_of, version_of}
 use Rattle.board_language.specs.Zones.{spans_of}
 use Rattle.edit_language.specs.declared.edit.Edit.{Edit}
 use Rattle.edit_language.specs.declared.edit.Edit.TheVariants.{Track, Via, Drop, Priority, Clearance}
@@ -62,28 +62,36 @@ between_quotes name = codes "\"" ++ (name ++ codes "\"")
 abbrev pub on_own_line : List ℕ → List ℕ
 on_own_line list = codes "  " ++ (list ++ codes "\n")
 
--- the line of a new track
-unfoldable pub track_line : Point → Point → ℕ → List ℕ → ℕ → List ℕ → List ℕ
-track_line from to width layer net stamp =
+-- the editors of texts above version 20221018 write a stamp as a `uuid`
+abbrev pub has_uuids : ℕ → Bool
+has_uuids version = nat_lt 20221018 version
+
+-- the list of a new thing's stamp in a text of this version: a string in a `uuid`, or a word in a `tstamp`
+abbrev pub stamp_text : ℕ → List ℕ → List ℕ
+stamp_text version stamp = cond (has_uuids version) (list_text (codes "uuid") (between_quotes stamp ∷ [])) (list_text (codes "tstamp") (stamp ∷ []))
+
+-- the line of a new track in a text of this version
+unfoldable pub track_line : ℕ → Point → Point → ℕ → List ℕ → ℕ → List ℕ → List ℕ
+track_line version from to width layer net stamp =
     on_own_line (list_text (codes "segment") (
     point_list (codes "start") from
     ∷ point_list (codes "end") to
     ∷ length_list (codes "width") width
     ∷ list_text (codes "layer") (between_quotes layer ∷ [])
     ∷ whole_list (codes "net") net
-    ∷ list_text (codes "tstamp") (stamp ∷ [])
+    ∷ stamp_text version stamp
     ∷ []))
 
--- the line of a new via
-unfoldable pub via_line : Point → ℕ → ℕ → List ℕ → List ℕ → ℕ → List ℕ → List ℕ
-via_line at size drill top bottom net stamp =
+-- the line of a new via in a text of this version
+unfoldable pub via_line : ℕ → Point → ℕ → ℕ → List ℕ → List ℕ → ℕ → List ℕ → List ℕ
+via_line version at size drill top bottom net stamp =
     on_own_line (list_text (codes "via") (
     point_list (codes "at") at
     ∷ length_list (codes "size") size
     ∷ length_list (codes "drill") drill
     ∷ list_text (codes "layers") (between_quotes top ∷ between_quotes bottom ∷ [])
     ∷ whole_list (codes "net") net
-    ∷ list_text (codes "tstamp") (stamp ∷ [])
+    ∷ stamp_text version stamp
     ∷ []))
 
 -- directly before the board's closing parenthesis
@@ -124,10 +132,10 @@ clearance_splice zone value = clearance_by zone.clearance zone.connect zone.tail
 
 -- ---- all of them
 
--- what an edit does to the text of this board, where the item has the stamp that the edit names
+-- what an edit does to the text of this board, by the text's own version, where the item has the stamp that the edit names
 unfoldable pub splice_of : List ℕ → Item → Edit → Item → Splice
-splice_of text board (Track from to width layer net stamp) item = put_before_close (span_of board) (track_line from to width layer net stamp)
-splice_of text board (Via at size drill top bottom net stamp) item = put_before_close (span_of board) (via_line at size drill top bottom net stamp)
+splice_of text board (Track from to width layer net stamp) item = put_before_close (span_of board) (track_line (version_of text board) from to width layer net stamp)
+splice_of text board (Via at size drill top bottom net stamp) item = put_before_close (span_of board) (via_line (version_of text board) at size drill top bottom net stamp)
 splice_of text board (Drop stamp) item = take_out (span_of item)
 splice_of text board (Priority stamp value) item = priority_splice (spans_of text item) value
 splice_of text board (Clearance stamp value) item = clearance_splice (spans_of text item) value

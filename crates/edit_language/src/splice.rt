@@ -87,7 +87,7 @@ fn at_place(place: usize, put: Vec<u8>) -> Splice
     }
 }
 
-/// What a new track does to the text of the board that stands here.
+/// What a new track does to the text of the board that stands here, a text of this version.
 ///
 /// # Errors
 ///
@@ -95,6 +95,7 @@ fn at_place(place: usize, put: Vec<u8>) -> Splice
 pub fn put_track(
     alloc: Global,
     board: Span,
+    version: u32,
     from: Point,
     to: Point,
     width: u32,
@@ -106,13 +107,13 @@ pub fn put_track(
     requires from { IsPointInRange from }
     requires to { IsPointInRange to }
     requires width { IsSize width }
-    ensures { IfOk result (λ s. s ≡ put_before_close board (track_line from to width layer.now net stamp.now)) }
+    ensures { IfOk result (λ s. s ≡ put_before_close board (track_line version from to width layer.now net stamp.now)) }
 {
-    let track = track_text(alloc, from, to, width, layer, net, stamp)?;
+    let track = track_text(alloc, version, from, to, width, layer, net, stamp)?;
     Ok(at_place(board.to - 1, track))
 }
 
-/// What a new via does to the text of the board that stands here.
+/// What a new via does to the text of the board that stands here, a text of this version.
 ///
 /// # Errors
 ///
@@ -120,6 +121,7 @@ pub fn put_track(
 pub fn put_via(
     alloc: Global,
     board: Span,
+    version: u32,
     at: Point,
     size: u32,
     drill: u32,
@@ -132,9 +134,9 @@ pub fn put_via(
     requires at { IsPointInRange at }
     requires size { IsSize size }
     requires drill { IsSize drill }
-    ensures { IfOk result (λ s. s ≡ put_before_close board (via_line at size drill top.now bottom.now net stamp.now)) }
+    ensures { IfOk result (λ s. s ≡ put_before_close board (via_line version at size drill top.now bottom.now net stamp.now)) }
 {
-    let via = via_text(alloc, at, size, drill, top, bottom, net, stamp)?;
+    let via = via_text(alloc, version, at, size, drill, top, bottom, net, stamp)?;
     Ok(at_place(board.to - 1, via))
 }
 

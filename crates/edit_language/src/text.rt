@@ -4,7 +4,7 @@ ghost use Rattle.std.specs.Fmt.{decimal};
 ghost use Rattle.grid_num.specs.Length.{IsInRange};
 ghost use Rattle.grid_num.specs.Written.{mm_of};
 ghost use Rattle.edit_language.specs.Scripts.{IsPointInRange, IsSize};
-ghost use Rattle.edit_language.specs.Splices.{list_text, point_list, length_list, whole_list, between_quotes, on_own_line, behind_space, track_line, via_line};
+ghost use Rattle.edit_language.specs.Splices.{list_text, point_list, length_list, whole_list, between_quotes, on_own_line, behind_space, stamp_text, track_line, via_line};
 
 use grid_num::{Memory, MmText, Nm, Point, write_mm};
 use itoa::Buffer;
@@ -99,10 +99,23 @@ fn layers_list(alloc: Global, top: &[u8], bottom: &[u8]) -> Result<Vec<u8>, Memo
     list(alloc, b"layers", &values)
 }
 
-/// The line of a new track.
+/// The list of a new thing's stamp in a text of this version.
+fn stamp_list(alloc: Global, version: u32, stamp: &[u8]) -> Result<Vec<u8>, Memory>
+    ensures { IfOk result (λ v. v.items ≡ stamp_text version stamp.now) }
+{
+    if 20221018 < version {
+        let values = [between(alloc, b"\"", stamp, b"\"")?];
+        list(alloc, b"uuid", &values)
+    } else {
+        word_list(alloc, b"tstamp", stamp)
+    }
+}
+
+/// The line of a new track in a text of this version.
 #[tactic(auto, unfolding(crate::specs::Splices::track_line))]
 pub fn track_text(
     alloc: Global,
+    version: u32,
     from: Point,
     to: Point,
     width: u32,
@@ -113,7 +126,7 @@ pub fn track_text(
     requires from { IsPointInRange from }
     requires to { IsPointInRange to }
     requires width { IsSize width }
-    ensures { IfOk result (λ v. v.items ≡ track_line from to width layer.now net stamp.now) }
+    ensures { IfOk result (λ v. v.items ≡ track_line version from to width layer.now net stamp.now) }
 {
     let values = [
         place_list(alloc, b"start", from)?,
@@ -121,16 +134,17 @@ pub fn track_text(
         size_list(alloc, b"width", width)?,
         layer_list(alloc, layer)?,
         number_list(alloc, b"net", net)?,
-        word_list(alloc, b"tstamp", stamp)?,
+        stamp_list(alloc, version, stamp)?,
     ];
     let segment = list(alloc, b"segment", &values)?;
     between(alloc, b"  ", segment.as_slice(), b"\n")
 }
 
-/// The line of a new via.
+/// The line of a new via in a text of this version.
 #[tactic(auto, unfolding(crate::specs::Splices::via_line))]
 pub fn via_text(
     alloc: Global,
+    version: u32,
     at: Point,
     size: u32,
     drill: u32,
@@ -142,7 +156,7 @@ pub fn via_text(
     requires at { IsPointInRange at }
     requires size { IsSize size }
     requires drill { IsSize drill }
-    ensures { IfOk result (λ v. v.items ≡ via_line at size drill top.now bottom.now net stamp.now) }
+    ensures { IfOk result (λ v. v.items ≡ via_line version at size drill top.now bottom.now net stamp.now) }
 {
     let values = [
         place_list(alloc, b"at", at)?,
@@ -150,7 +164,7 @@ pub fn via_text(
         size_list(alloc, b"drill", drill)?,
         layers_list(alloc, top, bottom)?,
         number_list(alloc, b"net", net)?,
-        word_list(alloc, b"tstamp", stamp)?,
+        stamp_list(alloc, version, stamp)?,
     ];
     let via = list(alloc, b"via", &values)?;
     between(alloc, b"  ", via.as_slice(), b"\n")

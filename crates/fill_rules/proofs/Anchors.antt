@@ -13,11 +13,13 @@ use Rattle.board_language.specs.declared.board.Track.{Track}
 use Rattle.board_language.specs.declared.board.Via.{Via}
 use Rattle.board_language.specs.declared.board.Pad.{Pad}
 use Rattle.board_language.specs.Board.{Board}
-use Rattle.fill_rules.specs.Tasks.{Settings, has_layer}
+use Rattle.board_language.specs.Copper.{has_layer}
+use Rattle.fill_rules.specs.Tasks.{Settings}
 use Rattle.fill_rules.specs.Needs.{is_foreign, Foreign, role_by, role_of_kind, role, stands, is_on, track_copper, via_copper}
 use Rattle.fill_rules.specs.Anchors.{is_joined, pad_anchors, via_anchors, track_anchors, anchors_of}
 use Rattle.fill_rules.specs.InWords.{ForeignLaw, IsSolidPad, IsAnchor, AnchorsLaw}
-use Rattle.fill_rules.proofs.Members.{one_of_append, append_left, append_right, one_of_flat, flat_one_of, when_is, is_when}
+use Rattle.board_language.proofs.Members.{one_of_append, append_left, append_right, one_of_flat, flat_one_of}
+use Rattle.fill_rules.proofs.Members.{when_is, is_when}
 
 pub eq_true : (a b : ℕ) → (a == b) ≡ true → a ≡ b
 eq_true a b e = grind (arith, nat_tests)

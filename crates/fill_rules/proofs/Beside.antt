@@ -19,13 +19,16 @@ use Rattle.board_language.specs.declared.board.Via.{Via}
 use Rattle.board_language.specs.declared.board.Pad.{Pad}
 use Rattle.board_language.specs.declared.board.Rules.{Rules}
 use Rattle.board_language.specs.Board.{Board}
-use Rattle.fill_rules.specs.Tasks.{Settings, has_layer}
-use Rattle.fill_rules.specs.Needs.{units, is_foreign, item_need, Need, at_need, keep_when, track_copper, via_copper, hulls_round, pad_hulls, role, is_on, is_barred, track_needs, via_needs, pad_needs, edge_needs, item_needs}
-use Rattle.fill_rules.specs.Anchors.{IsTouching, anchors_of}
+use Rattle.board_language.specs.Copper.{has_layer, hulls_round, pad_hulls}
+use Rattle.fill_rules.specs.Tasks.{Settings}
+use Rattle.fill_rules.specs.Needs.{units, is_foreign, item_need, Need, at_need, keep_when, track_copper, via_copper, role, is_on, is_barred, track_needs, via_needs, pad_needs, edge_needs, item_needs}
+use Rattle.islands.specs.Held.{IsTouching}
+use Rattle.fill_rules.specs.Anchors.{anchors_of}
 use Rattle.fill_rules.specs.InWords.{IsSolidPad, IsAnchor}
 use Rattle.fill_rules.specs.Dirty.{unlined}
 use Rattle.fill_rules.specs.Edits.{unplaced, unplaced_via, AreAmong}
-use Rattle.fill_rules.proofs.Members.{one_of_append, append_left, append_right, one_of_flat, flat_one_of, when_is, map_one_of, one_of_map, some_one_of}
+use Rattle.board_language.proofs.Members.{one_of_append, append_left, append_right, one_of_flat, flat_one_of, map_one_of, one_of_map}
+use Rattle.fill_rules.proofs.Members.{when_is, some_one_of}
 use Rattle.fill_rules.proofs.Anchors.{anchors_law, eq_true}
 
 -- ---- what touches an octagon has a hull near to it

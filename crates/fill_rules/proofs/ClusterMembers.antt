@@ -8,7 +8,7 @@ use Rattle.board_language.specs.declared.board.Via.{Via}
 use Rattle.board_language.specs.declared.board.Pad.{Pad}
 use Rattle.board_language.specs.Board.{Board}
 use Rattle.fill_rules.specs.Tasks.{Task, tasks_from, task_zone}
-use Rattle.fill_rules.proofs.Members.{one_of_append, one_of_flat, one_of_map}
+use Rattle.board_language.proofs.Members.{one_of_append, one_of_flat, one_of_map}
 use Rattle.fill_rules.specs.Made.{Made}
 use Rattle.fill_rules.specs.Nodes.{Node, pad, track, via, part, made_of, nodes_of, passing_places, has_net, is_copper_kind, is_pad_node, part_nodes, firsts_from}
 use Rattle.fill_rules.specs.Clusters.{node_net, option_or_zero}

@@ -6,9 +6,9 @@ use Rattle.classes.specs.Classes.{Reaches, IsLeastOf}
 use Rattle.classes.proofs.Reaching.{reaches_self, reaches_link, reaches_then, reaches_back, least_one, least_shared}
 use Rattle.board_language.specs.Board.{Board}
 use Rattle.fill_rules.specs.Made.{Made}
-use Rattle.fill_rules.specs.Parts.{IsUpTo}
-use Rattle.fill_rules.proofs.Laws.{up_to_one}
-use Rattle.fill_rules.proofs.Members.{same_lists}
+use Rattle.islands.specs.Parts.{IsUpTo}
+use Rattle.islands.proofs.PartLaws.{up_to_one}
+use Rattle.board_language.proofs.Members.{same_lists}
 use Rattle.fill_rules.specs.Clusters.{AreTouching, AreJoinedAt, IsOneCluster}
 use Rattle.fill_rules.specs.ClusterLaws.{TouchLaw, JoinLaw, ClusterLaw, OneLabellingLaw, LabelLaw}
 

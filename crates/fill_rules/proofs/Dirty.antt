@@ -10,14 +10,17 @@ use Rattle.copper_shape.specs.declared.edge.Edge.{Edge}
 use Rattle.hulls.specs.Cells.{around}
 use Rattle.board_language.specs.declared.board.Pad.{Pad}
 use Rattle.board_language.specs.Board.{Board}
-use Rattle.fill_rules.specs.Tasks.{Settings, zone_at, layer_at, has_layer}
-use Rattle.fill_rules.specs.Needs.{at_need, keep_when, pad_hulls}
+use Rattle.board_language.specs.Copper.{has_layer, pad_hulls}
+use Rattle.fill_rules.specs.Tasks.{Settings, zone_at, layer_at}
+use Rattle.fill_rules.specs.Needs.{at_need, keep_when}
 use Rattle.fill_rules.specs.Reliefs.{brush_radius, is_thermal, gap_of, thermal_needs, pad_spokes, spokes_of}
-use Rattle.fill_rules.specs.Anchors.{IsTouching, IsWithinEdges}
+use Rattle.islands.specs.Held.{IsTouching}
+use Rattle.islands.specs.Inside.{IsWithinEdges}
 use Rattle.fill_rules.specs.Reach.{IsReaching}
-use Rattle.fill_rules.specs.Fill.{Fills, brush_at, Fits, IsClear, IsAllowed, IsLinked, IsLive, IsAnchored, IsKept, InFill, fill_of}
-use Rattle.fill_rules.specs.Sound.{IsSound}
+use Rattle.fill_rules.specs.Fill.{Fills, brush_at, Fits, IsClear, IsAllowed, IsLinked, IsLive, IsAnchored, IsSpared, IsKept, InFill, fill_of}
+use Rattle.fill_rules.proofs.Sound.{IsFillable}
 use Rattle.fill_rules.specs.Dirty.{unlined, IsLike, IsFollowed, IsDirty, IsSameFill, IsSameMade, IsUntouched, Spreads}
+use Rattle.fill_rules.proofs.Spared.{spared_alike}
 use Rattle.fill_rules.proofs.Same.{IsUsed}
 use Rattle.fill_rules.proofs.Reach.{InFrame, fits_in_frame, fill_in_frame}
 use Rattle.fill_rules.proofs.Fills.{fills_meet}
@@ -75,7 +78,7 @@ abbrev ClearsTo : Board → Board → Fills → Fills → ℕ → ℕ → Type 0
 ClearsTo b d one other i k = (o : Bounds) → IsUsed b i o → Fits b i o → IsClear b one i o → IsClear d other k o
 
 -- what bars the other in its frame bars the one
-clears_local : (b d : Board) → IsSound b → (one other : Fills) (i k : ℕ) → IsLike b d i k
+clears_local : (b d : Board) → IsFillable b → (one other : Fills) (i k : ℕ) → IsLike b d i k
     → ((m : ℕ) (q : PlanePoint) → other m q → InFrame d m q) → IsFollowed d b other one k i → ClearsTo b d one other i k
 unfolding AreNear
 clears_local b d s one other i k e inside g o u f c =
@@ -87,7 +90,7 @@ clears_local b d s one other i k e inside g o u f c =
           c.fills r.0 r.1.above r.1.layer r.1.foreign p q h r.2 (subst (λ (x : ℕ). IsNear x p q) r.3 n);
     }
 
-module _ (b d : Board) (s : IsSound b) (one other : Fills) (i k : ℕ) (e : IsLike b d i k) where
+module _ (b d : Board) (s : IsFillable b) (one other : Fills) (i k : ℕ) (e : IsLike b d i k) where
   allowed_to : ClearsTo b d one other i k → (c : Point) → IsAllowed b one i c → IsAllowed d other k c
   allowed_to h c a = record {
     fits = subst (Fits d k) (brush_like b d i k e c) (fits_like b d i k e (brush_at b i c) a.fits);
@@ -133,14 +136,18 @@ module _ (b d : Board) (s : IsSound b) (one other : Fills) (i k : ℕ) (e : IsLi
       least = λ x r. w.is_first.least x (reaches_map (IsLinked d other k) (IsLinked b one i) back c x r);
     };
     inside = subst (λ (es : List Edge). IsWithinEdges es w.first) e.edges w.inside;
-    anchored = elim w.anchored [
+    stays = elim w.stays [
       | inl a ↦ inl (anchored_to h f c w.allowed a)
-      | inr q ↦ inr (subst (λ (z : Settings). z.keep_islands ≡ true) e.zone q)
+      | inr q ↦ inr (subst (λ (z : Settings). IsSpared d other k c z.islands) e.zone
+          (spared_alike b d one other i k (brush_like b d i k e) c c
+          (reaches_map (IsLinked b one i) (IsLinked d other k) (linked_to h) c)
+          (reaches_map (IsLinked d other k) (IsLinked b one i) back c)
+          (zone_at b i).islands q))
     ];
   }
 
 -- tasks that are followed both ways are made of the same centres and spokes
-pub made_local : (b d : Board) → IsSound b → IsSound d → (one other : Fills) (i k : ℕ) → IsLike b d i k
+pub made_local : (b d : Board) → IsFillable b → IsFillable d → (one other : Fills) (i k : ℕ) → IsLike b d i k
     → ((j : ℕ) (q : PlanePoint) → one j q → InFrame b j q) → ((m : ℕ) (q : PlanePoint) → other m q → InFrame d m q)
     → IsFollowed b d one other i k → IsFollowed d b other one k i → IsSameMade b d one other i k
 made_local b d s t one other i k e inside within f g =
@@ -171,7 +178,7 @@ pub dirty_least : (direct : ℕ → Type 0) (spreads : ℕ → ℕ → Type 0) (
     → ((s t : ℕ) → spreads s t → P s → P t) → (t : ℕ) → IsDirty direct spreads t → P t
 dirty_least direct spreads P d k t (r, h, c) = reaches_keeps spreads P k r t c (d r h)
 
-module _ (b d : Board) (s : IsSound b) (t : IsSound d) (old : ℕ → ℕ) (direct changed : ℕ → Type 0)
+module _ (b d : Board) (s : IsFillable b) (t : IsFillable d) (old : ℕ → ℕ) (direct changed : ℕ → Type 0)
     (untouched : (k : ℕ) → (direct k → ⊥) → IsUntouched b d old k)
     (tell : (m : ℕ) → IsSameFill (fill_of b) (fill_of d) (old m) m ⊎ changed m)
     (sure : (m : ℕ) → IsSameMade b d (fill_of b) (fill_of d) (old m) m → changed m → ⊥)
@@ -194,7 +201,7 @@ module _ (b d : Board) (s : IsSound b) (t : IsSound d) (old : ℕ → ℕ) (dire
       anchors = λ a n o w f. (u.anchors a o w f).1 n;
     }
 
-    in_around : (c : Board) → IsSound c → (j : ℕ) (q : PlanePoint) → fill_of c j q → InFrame c j q
+    in_around : (c : Board) → IsFillable c → (j : ℕ) (q : PlanePoint) → fill_of c j q → InFrame c j q
     in_around c v j q h = fill_in_frame c v (fill_of c) j q ((fills_meet c j q).0 h)
 
     made_below : (n k : ℕ) → k < n → (IsDirty direct (Spreads d changed) k → ⊥) → IsSameMade b d (fill_of b) (fill_of d) (old k) k

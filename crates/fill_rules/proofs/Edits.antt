@@ -7,8 +7,9 @@ use Rattle.board_language.specs.declared.board.Track.{Track}
 use Rattle.board_language.specs.declared.board.Via.{Via}
 use Rattle.board_language.specs.declared.board.Rules.{Rules}
 use Rattle.board_language.specs.Board.{Board}
-use Rattle.fill_rules.specs.Tasks.{Settings, zone_at, layer_at, has_layer}
-use Rattle.fill_rules.specs.Needs.{units, item_need, track_copper, via_copper, hulls_round, item_needs}
+use Rattle.board_language.specs.Copper.{has_layer, hulls_round}
+use Rattle.fill_rules.specs.Tasks.{Settings, zone_at, layer_at}
+use Rattle.fill_rules.specs.Needs.{units, item_need, track_copper, via_copper, item_needs}
 use Rattle.fill_rules.specs.Anchors.{anchors_of}
 use Rattle.fill_rules.specs.Dirty.{IsLike, IsUntouched}
 use Rattle.fill_rules.specs.Edits.{AreSameBut, IsTrackDirtying, IsViaDirtying, DirectLaw}

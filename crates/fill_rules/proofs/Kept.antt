@@ -13,15 +13,17 @@ use Rattle.hulls.proofs.Copper.{copper_law}
 use Rattle.hulls.proofs.Edges.{segment_law, chord_disc_law}
 use Rattle.classes.specs.Classes.{IsOneOf}
 use Rattle.board_language.specs.Board.{Board}
-use Rattle.fill_rules.specs.Tasks.{Settings, zone_at, layer_at, has_layer}
-use Rattle.fill_rules.specs.Needs.{is_foreign, item_need, edge_need, track_copper, via_copper, hulls_round, pad_hulls, role, is_on, is_barred, Need, at_need, keep_when, track_needs, via_needs, pad_needs, edge_needs, item_needs}
+use Rattle.board_language.specs.Copper.{has_layer, hulls_round, pad_hulls}
+use Rattle.fill_rules.specs.Tasks.{Settings, zone_at, layer_at}
+use Rattle.fill_rules.specs.Needs.{is_foreign, item_need, edge_need, track_copper, via_copper, role, is_on, is_barred, Need, at_need, keep_when, track_needs, via_needs, pad_needs, edge_needs, item_needs}
 use Rattle.fill_rules.specs.Fill.{Fills, brush_at, IsClear, InFill, fill_of}
 use Rattle.fill_rules.specs.InWords.{IsApart, IsBarred, CopperKeptLaw, EdgeKeptLaw, ArcKeptLaw, ZoneKeptLaw}
-use Rattle.fill_rules.proofs.Members.{append_left, append_right, flat_one_of, is_when, map_one_of, some_one_of}
+use Rattle.board_language.proofs.Members.{append_left, append_right, flat_one_of, map_one_of}
+use Rattle.fill_rules.proofs.Members.{is_when, some_one_of}
 use Rattle.fill_rules.proofs.Fills.{fills_meet}
 
 -- each point of a fill is in an octagon that is clear
-fill_clear : (b : Board) (above : Fills) (i : ℕ) (p : PlanePoint) → InFill b above i p → (o : Bounds) × In o p × IsClear b above i o
+pub fill_clear : (b : Board) (above : Fills) (i : ℕ) (p : PlanePoint) → InFill b above i p → (o : Bounds) × In o p × IsClear b above i o
 unfolding InFill
 fill_clear b above i p (inl (c, k, n)) = (brush_at b i c, n, k.allowed.clear)
 fill_clear b above i p (inr (o, l, n, w)) = (o, n, l.clear)
@@ -59,7 +61,7 @@ module _ (b : Board) (z : Settings) (l : ℕ) where
       append_right n (flat_map (track_needs b z l) b.tracks) _
       (append_right n (flat_map (via_needs b z l) b.vias) _ (append_right n (flat_map (pad_needs b z l) b.pads) _ i))
 
-  barred : (own : ℕ) (c : Copper) (h : Bounds) → IsBarred b z l own c → IsOneOf h (hulls_round c) → IsOneOf (need (item_need b z own) h) (item_needs b z l)
+  pub barred : (own : ℕ) (c : Copper) (h : Bounds) → IsBarred b z l own c → IsOneOf h (hulls_round c) → IsOneOf (need (item_need b z own) h) (item_needs b z l)
   unfolding IsBarred pad_hulls
   barred own c h (inl (t, i, e, f, o, s)) g =
       let a : IsOneOf h (hulls_round (track_copper t)) = subst (λ (x : Copper). IsOneOf h (hulls_round x)) s g in

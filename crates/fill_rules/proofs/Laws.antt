@@ -1,14 +1,14 @@
--- Nearness by the need, components and parts.
-use Rattle.std.proofs.Common.{◌≡◌, sym, subst, ℕ, ◌≤◌, ◌<◌, inl, inr, arith, List, length, get_or}
-use Rattle.std.specs.Prelude.{◌↔◌}
+-- Nearness by the need, and components.
+use Rattle.std.proofs.Common.{refl, ℕ, ◌≤◌, inl, inr}
 use Rattle.plane.specs.Plane.{PlanePoint, Bounds, IsNear, AreNear, IsMeeting}
 use Rattle.plane.proofs.Near.{IsNear-more, AreNear-more, IsMeeting-sym}
 use Rattle.classes.specs.Classes.{Reaches}
-use Rattle.classes.proofs.Reaching.{reaches_then, reaches_link, reaches_back, reaches_keeps, least_one, least_shared}
+use Rattle.classes.proofs.Reaching.{reaches_then, reaches_link, reaches_back, reaches_keeps, least_shared}
 use Rattle.grid_num.specs.declared.Point.{Point}
 use Rattle.board_language.specs.Board.{Board}
+use Rattle.fill_rules.specs.Tasks.{zone_at}
 use Rattle.fill_rules.specs.Fill.{Fills, brush_at, IsAllowed, IsLinked, IsAnchored, IsKept, IsBefore}
-use Rattle.fill_rules.specs.Parts.{IsMeetingAt, IsOnePart, IsUpTo, AreParts}
+use Rattle.fill_rules.proofs.Spared.{spared_alike}
 
 -- ---- near
 pub near_grows : (a c : ℕ) → a ≤ c → (p q : PlanePoint) → IsNear a p q → IsNear c p q
@@ -48,22 +48,11 @@ kept_together b above i c d k r =
       first = k.first;
       is_first = least_shared (IsLinked b above i) IsBefore (linked_back b above i) c d k.first r k.is_first;
       inside = k.inside;
-      anchored = elim k.anchored [ inl a ↦ inl (anchored_together b above i c d back a) | inr h ↦ inr h ];
+      stays = elim k.stays [
+        | inl a ↦ inl (anchored_together b above i c d back a)
+        | inr s ↦ inr (spared_alike b b above above i i (λ e. refl) c d
+            (λ e q. reaches_then (IsLinked b above i) d c e back q)
+            (λ e q. reaches_then (IsLinked b above i) c d e r q)
+            (zone_at b i).islands s)
+      ];
     }
-
--- ---- parts
-meeting_at_back : (octs : List Bounds) (j k : ℕ) → IsMeetingAt octs j k → IsMeetingAt octs k j
-meeting_at_back octs j k m = record { first = m.second; second = m.first; at_first = m.at_second; at_second = m.at_first; meet = meeting_back m.first m.second m.meet }
-
-pub up_to_one : (j k : ℕ) → IsUpTo j k → IsUpTo k j → j ≡ k
-up_to_one j k l m = omega arith
-
--- two pieces have one label exactly where they are in one part
-pub parts_same : (octs : List Bounds) (labels : List ℕ) → AreParts octs labels → (j k : ℕ) → j < length octs → k < length octs
-    → (get_or labels j 0 ≡ get_or labels k 0) ↔ IsOnePart octs j k
-parts_same octs labels a j k l m = (
-  λ e. reaches_then (IsMeetingAt octs) j (get_or labels j 0) k (a.least j l).reached
-      (reaches_back (IsMeetingAt octs) (meeting_at_back octs) k (get_or labels j 0) (subst (λ x. IsOnePart octs k x) (sym e) (a.least k m).reached)),
-  λ r. least_one (IsMeetingAt octs) IsUpTo up_to_one k (get_or labels j 0) (get_or labels k 0)
-      (least_shared (IsMeetingAt octs) IsUpTo (meeting_at_back octs) j k (get_or labels j 0) r (a.least j l)) (a.least k m),
-)

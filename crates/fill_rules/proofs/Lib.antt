@@ -1,6 +1,7 @@
 pub mod Members
 pub mod Same
 pub mod Fills
+pub mod Spared
 pub mod Laws
 pub mod Limit
 pub mod Heights
@@ -14,6 +15,7 @@ pub mod Distance
 pub mod InWords
 pub mod Anchors
 pub mod Kept
+pub mod Clearance
 pub mod Sound
 pub mod SameTasks
 pub mod Beside

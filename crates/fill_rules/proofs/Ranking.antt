@@ -6,9 +6,10 @@ use Rattle.std.proofs.lemmas.Bool.Decides.{nat_tests}
 use Rattle.classes.specs.Classes.{IsOneOf}
 use Rattle.board_language.specs.declared.board.Zone.{Zone}
 use Rattle.board_language.specs.Board.{Board}
-use Rattle.fill_rules.specs.Tasks.{Task, no_zone, has_layer, layers_below, tasks_from, task_zone, put_by_priority, put_all, ranked}
+use Rattle.board_language.specs.Copper.{has_layer}
+use Rattle.fill_rules.specs.Tasks.{Task, no_zone, layers_below, tasks_from, task_zone, put_by_priority, put_all, ranked}
 use Rattle.fill_rules.specs.Ranking.{IsFiled, Outranks, IsSortedBy, IsRanking}
-use Rattle.fill_rules.proofs.Members.{one_of_append, append_left, append_right, one_of_map, map_one_of}
+use Rattle.board_language.proofs.Members.{one_of_append, append_left, append_right, one_of_map, map_one_of}
 
 sorted_append : {A : Type 0} (R : A → A → Type 0) (xs ys : List A) → IsSortedBy R xs → IsSortedBy R ys
     → ((x y : A) → IsOneOf x xs → IsOneOf y ys → R x y) → IsSortedBy R (xs ++ ys)

@@ -8,6 +8,7 @@ use Rattle.board_language.specs.Board.{Board}
 use Rattle.fill_rules.specs.Tasks.{zone_at, layer_at}
 use Rattle.fill_rules.specs.Reliefs.{spokes_of}
 use Rattle.fill_rules.specs.Fill.{Fills, brush_at, Fits, IsClear, IsAllowed, IsLinked, IsLive, IsAnchored, IsKept, InFill}
+use Rattle.fill_rules.proofs.Spared.{spared_alike}
 
 -- the brush at some centre, or a spoke
 abbrev pub IsUsed : Board → ℕ → Bounds → Type 0
@@ -46,7 +47,13 @@ kept_map b one other i h k c w = record {
     least = λ d r. w.is_first.least d (reaches_map (IsLinked b other i) (IsLinked b one i) (linked_map b other one i k) c d r);
   };
   inside = w.inside;
-  anchored = elim w.anchored [ inl a ↦ inl (anchored_map b one other i h c a) | inr e ↦ inr e ];
+  stays = elim w.stays [
+    | inl a ↦ inl (anchored_map b one other i h c a)
+    | inr s ↦ inr (spared_alike b b one other i i (λ d. refl) c c
+        (reaches_map (IsLinked b one i) (IsLinked b other i) (linked_map b one other i h) c)
+        (reaches_map (IsLinked b other i) (IsLinked b one i) (linked_map b other one i k) c)
+        (zone_at b i).islands s)
+  ];
 }
 
 pub fill_map : (b : Board) (one other : Fills) (i : ℕ) → Clears b one other i → Clears b other one i → (p : PlanePoint)

@@ -1,42 +1,31 @@
--- A board with pads' copper and thick enough zones is sound.
-use Rattle.std.proofs.Common.{◌≡◌, sym, ap, subst, ℕ, suc, ◌+◌, inl, inr, arith, List, [], ◌∷◌}
-use Rattle.std.specs.Prelude.{◌/◌, ℤ, pos, negsuc, ◌+ℤ◌}
-use Rattle.std.specs.List.{All}
+-- What the rules of the fill rest on, of all that every accepted board has.
+use Rattle.std.proofs.Common.{◌≡◌, sym, subst, inl, inr, ◌≤◌, List, [], ◌∷◌, length}
 use Rattle.plane.specs.Plane.{Bounds, Within}
 use Rattle.classes.specs.Classes.{IsOneOf}
+use Rattle.board_language.proofs.Members.{all_one_of}
 use Rattle.hulls.specs.Cells.{floor_of}
-use Rattle.hulls.specs.Hulls.{hulls_of}
-use Rattle.hulls.proofs.Pads.{centre_law}
 use Rattle.board_language.specs.declared.board.Pad.{Pad}
-use Rattle.fill_rules.specs.Needs.{pad_hulls}
-use Rattle.fill_rules.specs.Sound.{HasPad, SoundLaw}
+use Rattle.board_language.specs.declared.board.Zone.{Zone}
+use Rattle.board_language.specs.Board.{Board}
+use Rattle.board_language.specs.Copper.{pad_hulls}
+use Rattle.board_language.specs.Facts.{HasOneHull, IsSoundPad, IsSoundZone, IsSoundBoard}
 
--- a quarter of twice as much, rounded down, is the half
-pub halved : (x : ℤ) → floor_of 4 (x +ℤ x) ≡ floor_of 2 x
-unfolding floor_of
-halved (pos a) = ap pos (quarter a)
-  where
-    quarter : (a : ℕ) → (a + a) / 4 ≡ a / 2
-    quarter a = omega arith
-halved (negsuc a) = ap negsuc (quarter a)
-  where
-    quarter : (a : ℕ) → suc (a + a) / 4 ≡ a / 2
-    quarter a = omega arith
+-- copper is at least 0.001 mm thick, and a pad's hull holds the pad's centre, rounded down to units
+pub record IsFillable (b : Board) : Type 0 where
+  pub thick : (z : Zone) → IsOneOf z b.zones → 1000 ≤ z.thickness
+  pub centred : (p : Pad) → IsOneOf p b.pads → (h : Bounds) → IsOneOf h (pad_hulls p) → Within h (floor_of 2 p.at.x) (floor_of 2 p.at.y)
 
-pub all_one_of : {A : Type 0} (P : A → Type 0) (xs : List A) (x : A) → All P xs → IsOneOf x xs → P x
+one_centred : (p : Pad) → HasOneHull p → (h : Bounds) → IsOneOf h (pad_hulls p) → Within h (floor_of 2 p.at.x) (floor_of 2 p.at.y)
 unfolding IsOneOf
-all_one_of P [] x h i = absurd i
-all_one_of P (y ∷ xs) x h (inl e) = subst P (sym e) (h 0 y (omega arith))
-all_one_of P (y ∷ xs) x h (inr i) = all_one_of P xs x (λ k d l. h (suc k) d (omega (arith, l))) i
+one_centred p o h i = by_place (subst (IsOneOf h) o.only i)
+  where
+    by_place : IsOneOf h (o.hull ∷ []) → Within h (floor_of 2 p.at.x) (floor_of 2 p.at.y)
+    by_place (inl e) = subst (λ (g : Bounds). Within g (floor_of 2 p.at.x) (floor_of 2 p.at.y)) (sym e) o.centre
+    by_place (inr none) = absurd none
 
-pub centred : (p : Pad) → HasPad p → (h : Bounds) → IsOneOf h (pad_hulls p) → Within h (floor_of 2 p.at.x) (floor_of 2 p.at.y)
-unfolding pad_hulls
-centred p w h i =
-    let x = p.at.x +ℤ p.at.x in
-    let y = p.at.y +ℤ p.at.y in
-    let all = centre_law p.shape.core p.shape.radius x y w.core w.centre in
-    let at : Within h (floor_of 4 x) (floor_of 4 y) = all_one_of (λ (o : Bounds). Within o (floor_of 4 x) (floor_of 4 y)) (hulls_of p.shape.core p.shape.radius) h all i in
-    subst (λ (v : ℤ). Within h (floor_of 2 p.at.x) v) (halved p.at.y) (subst (λ (u : ℤ). Within h u (floor_of 4 y)) (halved p.at.x) at)
-
-pub sound_law : SoundLaw
-sound_law b t w = record { thick = t; centred = λ p i. centred p (w p i) }
+pub fillable : (b : Board) → IsSoundBoard b → IsFillable b
+fillable b s =
+    record {
+      thick = λ z i. (all_one_of (IsSoundZone (length b.layers)) b.zones z s.zones i).thick;
+      centred = λ p i. one_centred p (all_one_of (IsSoundPad (length b.layers)) b.pads p s.pads i).hull;
+    }

@@ -9,11 +9,12 @@ use Rattle.board_language.specs.declared.board.Rules.{Rules}
 use Rattle.board_language.specs.Board.{Board}
 use Rattle.fill_rules.specs.Tasks.{Settings, task_at, zone_at, layer_at}
 use Rattle.fill_rules.specs.Needs.{units, item_need, Need, item_needs}
-use Rattle.fill_rules.specs.Anchors.{IsTouching, anchors_of}
+use Rattle.islands.specs.Held.{IsTouching}
+use Rattle.fill_rules.specs.Anchors.{anchors_of}
 use Rattle.fill_rules.specs.Reach.{IsReaching}
 use Rattle.fill_rules.specs.Dirty.{unlined, IsUntouched}
 use Rattle.fill_rules.specs.Edits.{unplaced, unplaced_via, AreAmong, IsSameButZone, SettingsLaw}
-use Rattle.fill_rules.proofs.Members.{map_one_of}
+use Rattle.board_language.proofs.Members.{map_one_of}
 use Rattle.fill_rules.proofs.SameTasks.{layer_by, need_by, reach_by, other_same}
 use Rattle.fill_rules.proofs.Beside.{items_to, anchors_to}
 

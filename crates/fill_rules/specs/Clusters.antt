@@ -6,12 +6,13 @@ use Rattle.plane.specs.Corners.{corners_of}
 use Rattle.touching.specs.Core.{area, Touches}
 use Rattle.copper_shape.specs.Shapes.{Copper}
 use Rattle.classes.specs.Classes.{IsOneOf, Reaches, IsLeastOf}
+use Rattle.islands.specs.Parts.{IsUpTo}
 use Rattle.board_language.specs.Board.{Board}
 use Rattle.ratsnest.specs.declared.Anchor.{Anchor}
-use Rattle.fill_rules.specs.Tasks.{Task, has_layer, task_zone}
+use Rattle.board_language.specs.Copper.{has_layer}
+use Rattle.fill_rules.specs.Tasks.{Task, task_zone}
 use Rattle.fill_rules.specs.Needs.{track_copper, via_copper}
 use Rattle.fill_rules.specs.Made.{Made}
-use Rattle.fill_rules.specs.Parts.{IsUpTo}
 use Rattle.fill_rules.specs.Nodes.{Node, pad, track, via, part, made_of, nodes_of}
 
 -- ---- what a node is made of

@@ -4,12 +4,13 @@ use Rattle.plane.specs.Plane.{PlanePoint, Bounds, In, AreNear}
 use Rattle.classes.specs.Classes.{Reaches, IsOneOf}
 use Rattle.grid_num.specs.declared.Point.{Point}
 use Rattle.copper_shape.specs.Shapes.{Copper}
+use Rattle.islands.specs.Held.{IsTouching}
 use Rattle.hulls.specs.Cells.{around}
 use Rattle.board_language.specs.declared.board.Pad.{Pad}
 use Rattle.board_language.specs.Board.{Board}
 use Rattle.fill_rules.specs.Tasks.{zone_at, layer_at}
 use Rattle.fill_rules.specs.Needs.{zone_need, Need, item_needs}
-use Rattle.fill_rules.specs.Anchors.{anchors_of, IsTouching}
+use Rattle.fill_rules.specs.Anchors.{anchors_of}
 use Rattle.fill_rules.specs.Reach.{IsReaching}
 use Rattle.fill_rules.specs.Fill.{Fills, IsKept, IsLive}
 

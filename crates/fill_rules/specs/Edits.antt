@@ -7,8 +7,9 @@ use Rattle.board_language.specs.declared.board.Track.{Track}
 use Rattle.board_language.specs.declared.board.Via.{Via}
 use Rattle.board_language.specs.declared.board.Zone.{Zone}
 use Rattle.board_language.specs.Board.{Board}
-use Rattle.fill_rules.specs.Tasks.{Settings, settings_of, no_zone, task_at, zone_at, layer_at, has_layer}
-use Rattle.fill_rules.specs.Needs.{item_need, track_copper, via_copper, hulls_round}
+use Rattle.board_language.specs.Copper.{has_layer, hulls_round}
+use Rattle.fill_rules.specs.Tasks.{Settings, settings_of, no_zone, task_at, zone_at, layer_at}
+use Rattle.fill_rules.specs.Needs.{item_need, track_copper, via_copper}
 use Rattle.fill_rules.specs.Reach.{IsReaching}
 use Rattle.fill_rules.specs.Dirty.{unlined, IsUntouched}
 

@@ -1,16 +1,22 @@
 -- The fill of a task, as a set of points of the plane, over the fills of the tasks above it.
-use Rattle.std.specs.Prelude.{◌≡◌, ◌⊎◌, ◌↔◌, ℕ, zero, suc, ◌<◌, ◌≤ℤ◌, ◌<ℤ◌, true}
-use Rattle.plane.specs.Plane.{PlanePoint, Bounds, In, StrictlyIn, ball_of, moved, IsNear, AreNear, IsMeeting}
+use Rattle.std.specs.Prelude.{◌≡◌, ◌⊎◌, ◌↔◌, ℕ, zero, suc, ◌*◌, ◌<◌, ◌≤◌, ℤ, ◌≤ℤ◌, ◌<ℤ◌, true}
+use Rattle.plane.specs.Plane.{PlanePoint, Bounds, In, Within, StrictlyIn, ball_of, moved, IsNear, AreNear, IsMeeting}
 use Rattle.grid_num.specs.declared.Point.{Point}
 use Rattle.plane.specs.Covering.{Covers, StrictlyCovers, edges_of}
 use Rattle.copper_shape.specs.Shapes.{Copper}
 use Rattle.classes.specs.Classes.{Reaches, IsLeastOf, IsOneOf}
+use Rattle.grid_sets.specs.Points.{IsCount}
+use Rattle.islands.specs.Held.{IsTouching}
+use Rattle.islands.specs.Inside.{IsWithinEdges}
+use Rattle.board_language.specs.declared.IslandMode.{IslandMode}
+use Rattle.board_language.specs.declared.IslandMode.TheVariants.{Remove, Keep, Below}
 use Rattle.board_language.specs.declared.board.Area.{Area}
 use Rattle.board_language.specs.Board.{Board}
-use Rattle.fill_rules.specs.Tasks.{zone_at, layer_at, has_layer}
+use Rattle.board_language.specs.Copper.{has_layer}
+use Rattle.fill_rules.specs.Tasks.{zone_at, layer_at}
 use Rattle.fill_rules.specs.Needs.{is_foreign, zone_need, Need, item_needs}
 use Rattle.fill_rules.specs.Reliefs.{brush_radius, thermal_needs, spokes_of}
-use Rattle.fill_rules.specs.Anchors.{anchors_of, IsTouching, IsWithinEdges}
+use Rattle.fill_rules.specs.Anchors.{anchors_of}
 use Rattle.fill_rules.specs.Reach.{IsReaching}
 
 -- a set of points for each rank
@@ -64,13 +70,32 @@ IsAnchored b above i c =
     ⊎ ((s : Copper) × IsOneOf s (anchors_of b (zone_at b i) (layer_at b i)) × IsTouching s (brush_at b i d))
     )
 
--- an allowed centre whose component begins inside the board and is anchored, or need not be
+-- ---- islands: components that aren't anchored
+
+-- the grid point lies in the brush at some centre of the component of c
+abbrev pub IsIslandPoint : Board → Fills → ℕ → Point → ℤ → ℤ → Type 0
+IsIslandPoint b above i c x y = (d : Point) × Reaches (IsLinked b above i) c d × Within (brush_at b i d) x y
+
+-- The component's area isn't below so many millionths of a square millimetre, each of 1,000,000 square nanometres. Each
+-- grid point that the brush takes counts once, as the 4 square nanometres round it.
+pub record IsLargeEnough (b : Board) (above : Fills) (i : ℕ) (c : Point) (area : ℕ) : Type 0 where
+  pub points : ℕ
+  pub count : IsCount (IsIslandPoint b above i c) points
+  pub enough : 1000000 * area ≤ 4 * points
+
+-- the mode lets the component of c stay, though nothing anchors it
+abbrev pub IsSpared : Board → Fills → ℕ → Point → IslandMode → Type 0
+IsSpared b above i c Remove = ⊥
+IsSpared b above i c Keep = Unit {0}
+IsSpared b above i c (Below area) = IsLargeEnough b above i c area
+
+-- an allowed centre whose component begins inside the board, and is anchored or spared by the zone's mode
 pub record IsKept (b : Board) (above : Fills) (i : ℕ) (c : Point) : Type 0 where
   pub allowed : IsAllowed b above i c
   pub first : Point
   pub is_first : IsLeastOf (IsLinked b above i) IsBefore c first
   pub inside : IsWithinEdges b.edges first
-  pub anchored : IsAnchored b above i c ⊎ ((zone_at b i).keep_islands ≡ true)
+  pub stays : IsAnchored b above i c ⊎ IsSpared b above i c (zone_at b i).islands
 
 -- the point is in the fill of rank i, where the fills above it are those given
 unfoldable pub InFill : Board → Fills → ℕ → PlanePoint → Type 0

@@ -14,7 +14,8 @@ use Rattle.board_language.specs.declared.board.Track.{Track}
 use Rattle.board_language.specs.declared.board.Via.{Via}
 use Rattle.board_language.specs.declared.board.Pad.{Pad}
 use Rattle.board_language.specs.Board.{Board}
-use Rattle.fill_rules.specs.Tasks.{Settings, zone_at, layer_at, has_layer}
+use Rattle.board_language.specs.Copper.{has_layer}
+use Rattle.fill_rules.specs.Tasks.{Settings, zone_at, layer_at}
 use Rattle.fill_rules.specs.Needs.{is_foreign, units, item_need, zone_need, edge_need, track_copper, via_copper, role, is_on, is_barred}
 use Rattle.fill_rules.specs.Reliefs.{spokes_by, gap_of}
 use Rattle.fill_rules.specs.Anchors.{anchors_of}

@@ -1,16 +1,16 @@
 -- The laws of the rules of the fill.
-use Rattle.std.specs.Prelude.{◌≡◌, ◌⊎◌, ◌↔◌, ℕ, ◌≤◌, ◌<◌, ◌+◌, ◌*◌, pos, ◌*ℤ◌, ◌≤ℤ◌, Bool, true, List, length, get_or}
+use Rattle.std.specs.Prelude.{◌≡◌, ◌⊎◌, ◌↔◌, ℕ, ◌≤◌, ◌<◌, ◌+◌, ◌*◌, pos, ◌*ℤ◌, ◌≤ℤ◌, Bool, true, List, length}
 use Rattle.plane.specs.Plane.{PlanePoint, Bounds, In, IsNear, AreNear, IsMeeting, scaled_dist_sq}
 use Rattle.grid_num.specs.declared.Point.{Point}
 use Rattle.plane.specs.Covering.{Covers, edges_of}
 use Rattle.hulls.specs.Cells.{around}
 use Rattle.classes.specs.Classes.{Reaches}
+use Rattle.grid_sets.specs.Points.{IsCount}
 use Rattle.board_language.specs.Board.{Board}
+use Rattle.board_language.specs.Facts.{IsSoundBoard}
 use Rattle.fill_rules.specs.Tasks.{ranked, zone_at, layer_at}
 use Rattle.fill_rules.specs.Reach.{IsReaching}
-use Rattle.fill_rules.specs.Fill.{brush_at, IsAllowed, IsLinked, IsLive, IsKept, InFill, fill_of, reaching_fills}
-use Rattle.fill_rules.specs.Parts.{AreParts, IsOnePart}
-use Rattle.fill_rules.specs.Sound.{IsSound}
+use Rattle.fill_rules.specs.Fill.{brush_at, IsAllowed, IsLinked, IsLive, IsIslandPoint, IsLargeEnough, IsKept, InFill, fill_of, reaching_fills}
 use Rattle.fill_rules.specs.Dirty.{IsDirty, IsSameFill, IsSameMade, IsUntouched, Spreads}
 use Rattle.fill_rules.specs.Lists.{covered_by, AreFillLists}
 use Rattle.fill_rules.specs.Ranking.{IsRanking}
@@ -50,9 +50,21 @@ WholeComponentLaw =
 abbrev pub KeptTogetherLaw : Type 0
 KeptTogetherLaw = (b : Board) (i : ℕ) (c d : Point) → IsKept b (fill_of b) i c → Reaches (IsLinked b (fill_of b) i) c d → IsKept b (fill_of b) i d
 
+-- the grid points of a component have one number
+abbrev pub OneIslandSizeLaw : Type 0
+OneIslandSizeLaw =
+    (b : Board) (i : ℕ) (c : Point) (points others : ℕ) → IsCount (IsIslandPoint b (fill_of b) i c) points
+    → IsCount (IsIslandPoint b (fill_of b) i c) others → points ≡ others
+
+-- which tells whether the component's area lets it stay
+abbrev pub IslandSizeLaw : Type 0
+IslandSizeLaw =
+    (b : Board) (i : ℕ) (c : Point) (area points : ℕ) → IsCount (IsIslandPoint b (fill_of b) i c) points
+    → IsLargeEnough b (fill_of b) i c area ↔ (1000000 * area ≤ 4 * points)
+
 -- past the last rank there is no fill
 abbrev pub NoFillLaw : Type 0
-NoFillLaw = (b : Board) → IsSound b → (i : ℕ) (p : PlanePoint) → length (ranked b) ≤ i → fill_of b i p → ⊥
+NoFillLaw = (b : Board) → IsSoundBoard b → (i : ℕ) (p : PlanePoint) → length (ranked b) ≤ i → fill_of b i p → ⊥
 
 -- each fill meets the rules over the fills above it
 abbrev pub FillLaw : Type 0
@@ -60,12 +72,12 @@ FillLaw = (b : Board) (i : ℕ) (p : PlanePoint) → fill_of b i p ↔ InFill b 
 
 -- a fill lies in the frame of its outline
 abbrev pub FillFrameLaw : Type 0
-FillFrameLaw = (b : Board) → IsSound b → (i : ℕ) (p : PlanePoint) → fill_of b i p → In (around (zone_at b i).outline) p
+FillFrameLaw = (b : Board) → IsSoundBoard b → (i : ℕ) (p : PlanePoint) → fill_of b i p → In (around (zone_at b i).outline) p
 
 -- and so does each live spoke
 abbrev pub SpokeFrameLaw : Type 0
 SpokeFrameLaw =
-    (b : Board) → IsSound b → (i : ℕ) (o : Bounds) (p : PlanePoint) → IsLive b (fill_of b) i o → In o p → In (around (zone_at b i).outline) p
+    (b : Board) → IsSoundBoard b → (i : ℕ) (o : Bounds) (p : PlanePoint) → IsLive b (fill_of b) i o → In o p → In (around (zone_at b i).outline) p
 
 -- lists that meet the rules, each over the lists before it, cover the fills
 abbrev pub ListLaw : Type 0
@@ -81,7 +93,7 @@ OneListOfFillsLaw =
 
 -- a higher task that doesn't reach a task changes nothing in its fill
 abbrev pub NoReachLaw : Type 0
-NoReachLaw = (b : Board) → IsSound b → (i : ℕ) (p : PlanePoint) → fill_of b i p ↔ InFill b (reaching_fills b (fill_of b) i) i p
+NoReachLaw = (b : Board) → IsSoundBoard b → (i : ℕ) (p : PlanePoint) → fill_of b i p ↔ InFill b (reaching_fills b (fill_of b) i) i p
 
 -- and what a task reaches ranks below it, on its layer, for a zone that is foreign to its own
 abbrev pub ReachedLaw : Type 0
@@ -95,7 +107,7 @@ ReachedLaw =
 -- among them.
 abbrev pub CleanLaw : Type 0
 CleanLaw =
-    (b d : Board) → IsSound b → IsSound d → (old : ℕ → ℕ) (direct changed : ℕ → Bool)
+    (b d : Board) → IsSoundBoard b → IsSoundBoard d → (old : ℕ → ℕ) (direct changed : ℕ → Bool)
     → ((k : ℕ) → (direct k ≡ true → ⊥) → IsUntouched b d old k)
     → ((m : ℕ) → IsSameFill (fill_of b) (fill_of d) (old m) m ⊎ (changed m ≡ true))
     → ((m : ℕ) → IsSameMade b d (fill_of b) (fill_of d) (old m) m → changed m ≡ true → ⊥)
@@ -107,12 +119,6 @@ abbrev pub SameAsBeforeLaw : Type 0
 SameAsBeforeLaw =
     (b d : Board) (old : ℕ → ℕ) (k : ℕ) → IsUntouched b d old k → IsSameMade b d (fill_of b) (fill_of d) (old k) k
     → IsSameFill (fill_of b) (fill_of d) (old k) k
-
--- two pieces have one label exactly where they are in one part
-abbrev pub PartsLaw : Type 0
-PartsLaw =
-    (octs : List Bounds) (labels : List ℕ) → AreParts octs labels → (j k : ℕ) → j < length octs → k < length octs
-    → (get_or labels j 0 ≡ get_or labels k 0) ↔ IsOnePart octs j k
 
 -- what is not near, at a need in units, to any point within a radius in halves of q is at least both together away from q
 abbrev pub CopperDistanceLaw : Type 0

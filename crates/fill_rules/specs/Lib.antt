@@ -4,15 +4,14 @@ pub mod Reliefs
 pub mod Anchors
 pub mod Reach
 pub mod Fill
-pub mod Parts
 pub mod Made
-pub mod Sound
 pub mod Dirty
 pub mod Edits
 pub mod Lists
 pub mod Ranking
 pub mod Distance
 pub mod InWords
+pub mod Clearance
 pub mod Rows
 pub mod Laws
 pub mod Nodes

@@ -5,7 +5,7 @@ use Rattle.plane.specs.Plane.{Bounds, box_of}
 use Rattle.copper_shape.specs.Shapes.{Copper}
 use Rattle.copper_shape.specs.declared.edge.Edge.{Edge}
 use Rattle.touching.specs.Core.{area, line}
-use Rattle.hulls.specs.Hulls.{hulls_of, edge_hulls_of, in_halves}
+use Rattle.hulls.specs.Hulls.{edge_hulls_of, in_halves}
 use Rattle.board_language.specs.declared.Join.{Join}
 use Rattle.board_language.specs.declared.Join.TheVariants.{Thermal, Solid, Apart, PlatedThermal}
 use Rattle.board_language.specs.declared.PadKind.{PadKind}
@@ -14,7 +14,8 @@ use Rattle.board_language.specs.declared.board.Track.{Track}
 use Rattle.board_language.specs.declared.board.Via.{Via}
 use Rattle.board_language.specs.declared.board.Pad.{Pad}
 use Rattle.board_language.specs.Board.{Board}
-use Rattle.fill_rules.specs.Tasks.{Settings, has_layer}
+use Rattle.board_language.specs.Copper.{has_layer, hulls_round, pad_hulls}
+use Rattle.fill_rules.specs.Tasks.{Settings}
 
 -- ---- foreign
 
@@ -49,10 +50,6 @@ track_copper t = record { core = line (in_halves t.from) (in_halves t.to); radiu
 -- a via is a disc
 abbrev pub via_copper : Via → Copper
 via_copper v = record { core = area (box_of (in_halves v.at).x (in_halves v.at).x (in_halves v.at).y (in_halves v.at).y); radius = v.size }
-
--- the octagons that stand for a piece of copper
-abbrev pub hulls_round : Copper → List Bounds
-hulls_round c = hulls_of c.core c.radius
 
 -- ---- pads
 
@@ -99,10 +96,6 @@ stands Surface copper = copper
 -- whether the pad counts on the layer: it has copper there, or is a bare hole
 abbrev pub is_on : ℕ → Pad → Bool
 is_on l p = stands p.kind (has_layer p.layers l)
-
--- the hulls of a pad's copper: just one for every pad that is read
-unfoldable pub pad_hulls : Pad → List Bounds
-pad_hulls p = hulls_round p.shape
 
 -- ---- obstacles
 

@@ -2,7 +2,8 @@
 use Rattle.std.specs.Prelude.{◌≡◌, ◌⊎◌, ◌↔◌, ◌<◌, true, List, [], ◌∷◌, length}
 use Rattle.classes.specs.Classes.{IsOneOf}
 use Rattle.board_language.specs.Board.{Board}
-use Rattle.fill_rules.specs.Tasks.{Task, has_layer, task_zone}
+use Rattle.board_language.specs.Copper.{has_layer}
+use Rattle.fill_rules.specs.Tasks.{Task, task_zone}
 
 -- t is one of the board's tasks: a zone together with one of its layers
 pub record IsTask (b : Board) (t : Task) : Type 0 where

@@ -11,7 +11,8 @@ use Rattle.hulls.specs.Cells.{floor_of}
 use Rattle.board_language.specs.declared.board.Pad.{Pad}
 use Rattle.board_language.specs.Board.{Board}
 use Rattle.fill_rules.specs.Tasks.{Settings}
-use Rattle.fill_rules.specs.Needs.{units, Role, Foreign, Relieved, Joined, Unjoined, role, is_on, pad_hulls, Need, at_need, keep_when}
+use Rattle.board_language.specs.Copper.{pad_hulls}
+use Rattle.fill_rules.specs.Needs.{units, Role, Foreign, Relieved, Joined, Unjoined, role, is_on, Need, at_need, keep_when}
 
 -- whether a pad of this role is joined by spokes
 abbrev pub is_relieved : Role → Bool

@@ -1,9 +1,11 @@
 -- Rows worked by hand: what the rules give for small boards, in numbers.
-use Rattle.std.specs.Prelude.{◌≡◌, ℕ, pos, false, List, [], ◌∷◌, None}
+use Rattle.std.specs.Prelude.{◌≡◌, ℕ, pos, List, [], ◌∷◌, None}
 use Rattle.plane.specs.Plane.{box_of}
+use Rattle.grid_sets.specs.Points.{IsCount}
 use Rattle.grid_num.specs.declared.Point.{Point}
 use Rattle.touching.specs.Core.{area}
 use Rattle.board_language.specs.declared.Join.TheVariants.{Thermal}
+use Rattle.board_language.specs.declared.IslandMode.TheVariants.{Remove, Keep, Below}
 use Rattle.board_language.specs.declared.PadKind.TheVariants.{Surface}
 use Rattle.board_language.specs.declared.board.Pad.{Pad}
 use Rattle.board_language.specs.declared.board.Zone.{Zone}
@@ -11,6 +13,7 @@ use Rattle.board_language.specs.Board.{Board}
 use Rattle.fill_rules.specs.Tasks.{settings_of, ranked}
 use Rattle.fill_rules.specs.Needs.{item_need, edge_need}
 use Rattle.fill_rules.specs.Reliefs.{brush_radius, pad_spokes}
+use Rattle.fill_rules.specs.Fill.{IsIslandPoint, IsSpared, fill_of}
 
 -- a zone with the outline, on the layers and of the net: clearance 0.2 mm, thickness 0.25 mm, gap and bridges 0.5 mm
 abbrev pub worked_zone : List Point → ℕ → ℕ → ℕ → Zone
@@ -25,7 +28,7 @@ worked_zone outline layers net priority =
       thickness = 250000;
       gap = 500000;
       bridge = 500000;
-      keep_islands = false;
+      islands = Remove;
       spans = record { priority = None; connect = None; clearance = None; tail = 0; fills = [] };
       span = record { from = 0; to = 0 };
       line = 0;
@@ -95,3 +98,20 @@ EdgeNeedRow = edge_need three_zones ≡ 250001
 -- the brush reaches 0.125 mm to each side
 abbrev pub BrushRow : Type 0
 BrushRow = brush_radius (settings_of (zone_on 1 1)) ≡ 62500
+
+-- a component of 11,684,826,500,000 grid points, 4 square nanometres each, has an area of 46.739306 square millimetres:
+-- it stays where just this area is wanted, and goes where a millionth more is
+abbrev pub IslandRow : Type 0
+IslandRow =
+    (b : Board) (i : ℕ) (c : Point) → IsCount (IsIslandPoint b (fill_of b) i c) 11684826500000
+    → IsSpared b (fill_of b) i c (Below 46739306) × (IsSpared b (fill_of b) i c (Below 46739307) → ⊥)
+
+-- and one of a grid point less goes
+abbrev pub LessIslandRow : Type 0
+LessIslandRow =
+    (b : Board) (i : ℕ) (c : Point) → IsCount (IsIslandPoint b (fill_of b) i c) 11684826499999
+    → IsSpared b (fill_of b) i c (Below 46739306) → ⊥
+
+-- without an area each component stays, or none does but those that are anchored
+abbrev pub ModeRow : Type 0
+ModeRow = (b : Board) (i : ℕ) (c : Point) → IsSpared b (fill_of b) i c Keep × (IsSpared b (fill_of b) i c Remove → ⊥)

@@ -1,11 +1,14 @@
 -- The tasks of a board, in the order in which they are filled, and what each is filled by. A task is a zone together with
 -- one of its copper layers.
-use Rattle.std.specs.Prelude.{ℕ, zero, suc, ◌^◌, Bool, false, not, cond, ◌==◌, nat_le, bit_and, List, [], ◌∷◌, ◌++◌, map, length, get_or, None}
+use Rattle.std.specs.Prelude.{ℕ, zero, suc, cond, nat_le, List, [], ◌∷◌, ◌++◌, map, length, get_or, None}
 use Rattle.grid_num.specs.declared.Point.{Point}
 use Rattle.board_language.specs.declared.Join.{Join}
 use Rattle.board_language.specs.declared.Join.TheVariants.{Apart}
+use Rattle.board_language.specs.declared.IslandMode.{IslandMode}
+use Rattle.board_language.specs.declared.IslandMode.TheVariants.{Remove}
 use Rattle.board_language.specs.declared.board.Zone.{Zone}
 use Rattle.board_language.specs.Board.{Board}
+use Rattle.board_language.specs.Copper.{has_layer}
 
 -- a zone together with one of its copper layers
 pub record Task : Type 0 where
@@ -23,7 +26,7 @@ pub record Settings : Type 0 where
   pub thickness : ℕ
   pub gap : ℕ
   pub bridge : ℕ
-  pub keep_islands : Bool
+  pub islands : IslandMode
 
 -- what a zone says that counts for its fill
 abbrev pub settings_of : Zone → Settings
@@ -36,7 +39,7 @@ settings_of z =
       thickness = z.thickness;
       gap = z.gap;
       bridge = z.bridge;
-      keep_islands = z.keep_islands;
+      islands = z.islands;
     }
 
 -- what stands past the end of a board's zones and tasks; it has no outline, so it is never filled
@@ -52,7 +55,7 @@ no_zone =
       thickness = 1000;
       gap = 0;
       bridge = 0;
-      keep_islands = false;
+      islands = Remove;
       spans = record { priority = None; connect = None; clearance = None; tail = 0; fills = [] };
       span = record { from = 0; to = 0 };
       line = 0;
@@ -61,10 +64,6 @@ no_zone =
 -- what stands past the last rank: a task of no zone
 abbrev pub no_task : Board → Task
 no_task b = record { zone = length b.zones; layer = 0 }
-
--- a set of layers is a number, its lowest bit the first layer
-abbrev pub has_layer : ℕ → ℕ → Bool
-has_layer layers l = not (bit_and layers (2 ^ l) == 0)
 
 -- ---- rank
 

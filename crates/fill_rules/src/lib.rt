@@ -5,10 +5,10 @@
 #![tactic(auto)]
 
 ghost use Rattle.fill_rules.specs.InWords.{ForeignLaw, UnitsLaw, ItemNeedLaw, ZoneNeedLaw, AnchorsLaw, SpokesLaw, GapLaw, CopperKeptLaw, EdgeKeptLaw, ArcKeptLaw, ZoneKeptLaw};
+ghost use Rattle.fill_rules.specs.Clearance.{CoreClearanceLaw, CopperClearanceLaw, EdgeClearanceLaw, ArcClearanceLaw, ZoneClearanceLaw, ReliefLaw};
 ghost use Rattle.fill_rules.specs.Edits.{DirectLaw, SettingsLaw};
-ghost use Rattle.fill_rules.specs.Rows.{SpokesRow, RankRow, PadNeedRow, TrackNeedRow, EdgeNeedRow, BrushRow};
-ghost use Rattle.fill_rules.specs.Sound.{SoundLaw};
-ghost use Rattle.fill_rules.specs.Laws.{NearnessGrowsLaw, ClearLaw, RankingLaw, FrameLaw, KeptLaw, ComponentLaw, WholeComponentLaw, KeptTogetherLaw, FillLaw, NoFillLaw, FillFrameLaw, SpokeFrameLaw, ListLaw, OneListOfFillsLaw, NoReachLaw, ReachedLaw, CleanLaw, SameAsBeforeLaw, PartsLaw, CopperDistanceLaw};
+ghost use Rattle.fill_rules.specs.Rows.{SpokesRow, RankRow, PadNeedRow, TrackNeedRow, EdgeNeedRow, BrushRow, IslandRow, LessIslandRow, ModeRow};
+ghost use Rattle.fill_rules.specs.Laws.{NearnessGrowsLaw, ClearLaw, RankingLaw, FrameLaw, KeptLaw, ComponentLaw, WholeComponentLaw, KeptTogetherLaw, OneIslandSizeLaw, IslandSizeLaw, FillLaw, NoFillLaw, FillFrameLaw, SpokeFrameLaw, ListLaw, OneListOfFillsLaw, NoReachLaw, ReachedLaw, CleanLaw, SameAsBeforeLaw, CopperDistanceLaw};
 
 mod joined;
 
@@ -59,9 +59,10 @@ pub fn component_law()
     ensures together { KeptTogetherLaw }
 {}
 
-/// A board is sound where its zones are at least 0.001 mm thick and each pad's copper has a pad's core with the centre in it.
-pub fn sound_law()
-    ensures { SoundLaw }
+/// The grid points of a component have one number, and this tells whether the component's area lets it stay.
+pub fn island_law()
+    ensures one { OneIslandSizeLaw }
+    ensures size { IslandSizeLaw }
 {}
 
 /// Each fill meets the rules over the fills above it, and past the last rank there is none; it lies in the frame of its outline, and so do its live spokes.
@@ -99,11 +100,6 @@ pub fn direct_law()
     ensures settings { SettingsLaw }
 {}
 
-/// Pieces have one label exactly where they are in one part.
-pub fn parts_law()
-    ensures { PartsLaw }
-{}
-
 /// What is not near, at a need, to any point of the copper round a place is at least the need and the copper's radius away from
 /// the place.
 pub fn distance_law()
@@ -119,6 +115,23 @@ pub fn clearance_law()
     ensures zones { ZoneKeptLaw }
 {}
 
+/// In nanometres, before any rounding: each point of a fill is at least the clearance and the radius away from each point of the
+/// core of foreign copper, of holes and of pads that are not to be joined, so at least the clearance from that copper; at least
+/// the edge clearance from straight board edges and the discs on arcs' chords; and fills of foreign zones on one layer
+/// are at least the clearance apart.
+pub fn clearance_in_nanometres()
+    ensures core { CoreClearanceLaw }
+    ensures copper { CopperClearanceLaw }
+    ensures edge { EdgeClearanceLaw }
+    ensures arc { ArcClearanceLaw }
+    ensures zones { ZoneClearanceLaw }
+{}
+
+/// Copper of a fill that isn't in a spoke is at least the thermal gap away from the copper of each pad that is joined by spokes.
+pub fn relief_law()
+    ensures { ReliefLaw }
+{}
+
 /// What the rules give for boards that are worked by hand.
 pub fn rows()
     ensures spokes { SpokesRow }
@@ -127,4 +140,7 @@ pub fn rows()
     ensures track { TrackNeedRow }
     ensures edge { EdgeNeedRow }
     ensures brush { BrushRow }
+    ensures island { IslandRow }
+    ensures less_island { LessIslandRow }
+    ensures modes { ModeRow }
 {}

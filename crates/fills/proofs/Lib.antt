@@ -1,3 +1,4 @@
 pub mod Same
 pub mod Points
+pub mod Thick
 pub mod Worked

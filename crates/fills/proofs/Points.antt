@@ -15,11 +15,11 @@ use Rattle.fill_rules.specs.Tasks.{ranked, task_zone, zone_at, task_at, layer_at
 use Rattle.fill_rules.specs.Reliefs.{brush_radius, spokes_of}
 use Rattle.fill_rules.specs.Fill.{brush_at, IsKept, InFill, fill_of}
 use Rattle.fill_rules.specs.Lists.{InOne, covered_by}
-use Rattle.fill_rules.specs.Parts.{IsMeetingAt}
-use Rattle.fill_rules.specs.Sound.{IsSound}
+use Rattle.islands.specs.Parts.{IsMeetingAt}
+use Rattle.fill_rules.proofs.Sound.{IsFillable, fillable}
 use Rattle.fill_rules.proofs.Fills.{fills_meet, fill_agree}
-use Rattle.fill_rules.proofs.Laws.{parts_same}
-use Rattle.fill_rules.proofs.Members.{one_of_append, append_left, append_right, get_or_is}
+use Rattle.islands.proofs.PartLaws.{parts_same}
+use Rattle.board_language.proofs.Members.{one_of_append, append_left, append_right, get_or_is}
 use Rattle.grid_sets.specs.Cells.{cells_of, OnBrushed, IsBrushedByRows}
 use Rattle.grid_sets.proofs.Apart.{cells_tight_law}
 use Rattle.grid_sets.proofs.Brushed.{cells_brush_law}
@@ -29,7 +29,7 @@ use Rattle.fills.specs.Laws.{AllFillsLaw, FillPointsLaw, FillSpokesLaw, FillPart
 
 -- ---- the spokes that count
 module _ (P : Bounds → Type 0) where
-  those_hold : (os chosen : List Bounds) → AreThose P os chosen → (o : Bounds) → IsOneOf o chosen → P o
+  pub those_hold : (os chosen : List Bounds) → AreThose P os chosen → (o : Bounds) → IsOneOf o chosen → P o
   unfolding IsOneOf
   those_hold [] chosen a o h = absurd (subst (IsOneOf o) a h)
   those_hold (x ∷ os) chosen (inl (n, a)) o h = those_hold os chosen a o h
@@ -38,7 +38,7 @@ module _ (P : Bounds → Type 0) where
     | inr g ↦ those_hold os rest a o g
   ]
 
-  held_chosen : (os chosen : List Bounds) → AreThose P os chosen → (o : Bounds) → IsOneOf o os → P o → IsOneOf o chosen
+  pub held_chosen : (os chosen : List Bounds) → AreThose P os chosen → (o : Bounds) → IsOneOf o os → P o → IsOneOf o chosen
   unfolding IsOneOf
   held_chosen [] chosen a o h p = absurd h
   held_chosen (x ∷ os) chosen (inl (n, a)) o (inl f) p = absurd (n (subst P f p))
@@ -46,7 +46,7 @@ module _ (P : Bounds → Type 0) where
   held_chosen (x ∷ os) chosen (inr (q, (rest, e, a))) o (inl f) p = subst (IsOneOf o) (sym e) (inl f)
   held_chosen (x ∷ os) chosen (inr (q, (rest, e, a))) o (inr g) p = subst (IsOneOf o) (sym e) (inr (held_chosen os rest a o g p))
 
-counted_is : (b : Board) (i : ℕ) (ps : List Bounds) (n : ℕ) (h : ArePieces b i ps n) (o : Bounds) → IsOneOf o h.counted ↔ IsCounted b i o
+pub counted_is : (b : Board) (i : ℕ) (ps : List Bounds) (n : ℕ) (h : ArePieces b i ps n) (o : Bounds) → IsOneOf o h.counted ↔ IsCounted b i o
 counted_is b i ps n h o = (
   λ m. those_hold (IsCounted b i) (spokes_of b (zone_at b i) (layer_at b i)) h.counted h.are_counted o m,
   λ c. held_chosen (IsCounted b i) (spokes_of b (zone_at b i) (layer_at b i)) h.counted h.are_counted o c.live.spoke c,
@@ -70,7 +70,7 @@ some_brushed r (c ∷ cells) p (inr h) = let w = some_brushed r cells p h in (w.
 IsThick : Zone → Type 0
 IsThick z = 1000 ≤ z.thickness
 
-wide : (b : Board) → IsSound b → (i : ℕ) → 250 ≤ brush_radius (zone_at b i)
+pub wide : (b : Board) → IsFillable b → (i : ℕ) → 250 ≤ brush_radius (zone_at b i)
 unfolding IsThick task_zone zone_at
 wide b s i =
     let t : 1000 ≤ (zone_at b i).thickness = get_or_is IsThick b.zones (task_at b i).zone no_zone (lit≤ tt) s.thick in
@@ -86,7 +86,7 @@ kept_by : (b : Board) (i : ℕ) (ps : List Bounds) (n : ℕ) (h : ArePieces b i 
 unfolding IsBrushedByRows brush_at
 kept_by b i ps n h p c k at = (c.x, c.y, (h.are_rows.same c.x c.y).1 k, at)
 
-module _ (b : Board) (s : IsSound b) (i : ℕ) (ps : List Bounds) (n : ℕ) (h : ArePieces b i ps n) (p : PlanePoint) where
+module _ (b : Board) (s : IsFillable b) (i : ℕ) (ps : List Bounds) (n : ℕ) (h : ArePieces b i ps n) (p : PlanePoint) where
   cells_to : InOne (map (brushed (brush_radius (zone_at b i))) (cells_of h.bands)) p → InFill b (fill_of b) i p
   unfolding InFill
   cells_to w =
@@ -120,11 +120,14 @@ module _ (b : Board) (s : IsSound b) (i : ℕ) (ps : List Bounds) (n : ℕ) (h :
   to_pieces (inl (c, k, at)) = from_cells c k at
   to_pieces (inr (o, l, at, m)) = from_spokes o (record { live = l; meets = m }) at
 
-pub fill_points : FillPointsLaw
-fill_points b s i f w p = (
+fill_points_of : (b : Board) → IsFillable b → (i : ℕ) (f : Made) → IsFillOf b i f → (p : PlanePoint) → InOne f.pieces p ↔ fill_of b i p
+fill_points_of b s i f w p = (
   λ m. (fills_meet b i p).1 (pieces_to b s i f.pieces f.spokes w.pieces p m),
   λ m. to_pieces b s i f.pieces f.spokes w.pieces p ((fills_meet b i p).0 m),
 )
+
+pub fill_points : FillPointsLaw
+fill_points b s = fill_points_of b (fillable b s)
 
 -- ---- the last pieces
 drop_append : (xs ys : List Bounds) (n : ℕ) → n ≡ length xs → drop n (xs ++ ys) ≡ ys
@@ -161,14 +164,14 @@ pieces_at [] i = refl
 pieces_at (f ∷ fills) zero = refl
 pieces_at (f ∷ fills) (suc i) = pieces_at fills i
 
-module _ (b : Board) (s : IsSound b) (fills : List Made) (h : (i : ℕ) → i < length (ranked b) → IsFillOf b i (get_or fills i no_fill)) where
+module _ (b : Board) (s : IsFillable b) (fills : List Made) (h : (i : ℕ) → i < length (ranked b) → IsFillOf b i (get_or fills i no_fill)) where
   lists : List (List Bounds)
   lists = map (λ (f : Made). f.pieces) fills
 
   covers : (i : ℕ) → i < length (ranked b) → (p : PlanePoint) → covered_by lists i p ↔ fill_of b i p
   unfolding lists
   covers i l p =
-      let f = fill_points b s i (get_or fills i no_fill) (h i l) p in (
+      let f = fill_points_of b s i (get_or fills i no_fill) (h i l) p in (
         λ x. f.0 (subst (λ (os : List Bounds). InOne os p) (pieces_at fills i) x),
         λ x. subst (λ (os : List Bounds). InOne os p) (sym (pieces_at fills i)) (f.1 x),
       )
@@ -182,4 +185,4 @@ module _ (b : Board) (s : IsSound b) (fills : List Made) (h : (i : ℕ) → i < 
 
 pub all_fills : AllFillsLaw
 unfolding lists
-all_fills b s fills h = record { each = in_turn b s fills h }
+all_fills b s fills h = record { each = in_turn b (fillable b s) fills h }

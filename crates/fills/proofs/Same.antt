@@ -2,18 +2,17 @@
 use Rattle.std.proofs.Common.{◌≡◌, refl, sym, ◌∙◌, ap, subst, ℕ, zero, suc, ◌<◌, inl, inr, arith, List, [], ◌∷◌, ◌++◌, length, get_or}
 use Rattle.std.specs.Prelude.{◌↔◌, map, flat_map}
 use Rattle.plane.specs.Plane.{Bounds, IsMeeting, ball_of, moved}
-use Rattle.classes.proofs.Reaching.{least_one}
 use Rattle.grid_num.specs.declared.Point.{Point}
 use Rattle.board_language.specs.declared.board.Pad.{Pad}
 use Rattle.board_language.specs.Board.{Board}
 use Rattle.fill_rules.specs.Tasks.{Settings, zone_at, layer_at}
-use Rattle.fill_rules.specs.Needs.{keep_when, pad_hulls}
+use Rattle.board_language.specs.Copper.{pad_hulls}
+use Rattle.fill_rules.specs.Needs.{keep_when}
 use Rattle.fill_rules.specs.Reliefs.{brush_radius, is_thermal, pad_spokes, spokes_of}
 use Rattle.fill_rules.specs.Fill.{brush_at, fill_of}
-use Rattle.fill_rules.specs.Parts.{IsMeetingAt, IsUpTo, AreParts}
+use Rattle.islands.specs.Parts.{AreParts}
 use Rattle.fill_rules.specs.Dirty.{unlined, IsLike, IsSameMade}
-use Rattle.fill_rules.proofs.Laws.{up_to_one}
-use Rattle.fill_rules.proofs.Members.{same_lists}
+use Rattle.islands.proofs.PartLaws.{parts_one}
 use Rattle.grid_sets.specs.Rows.{Row}
 use Rattle.grid_sets.specs.Bands.{Band, AreBandsOf}
 use Rattle.grid_sets.specs.Cells.{cells_of}
@@ -61,12 +60,6 @@ those_same P Q h (o ∷ os) xs ys (inl (n, a)) (inr (q, c)) = absurd (n ((h o).1
 those_same P Q h (o ∷ os) xs ys (inr (p, a)) (inl (m, c)) = absurd (m ((h o).0 p))
 those_same P Q h (o ∷ os) xs ys (inr (p, (r, e, a))) (inr (q, (s, f, c))) =
     e ∙ (ap (λ (t : List Bounds). o ∷ t) (those_same P Q h os r s a c) ∙ sym f)
-
-parts_one : (octs : List Bounds) (labels others : List ℕ) → AreParts octs labels → AreParts octs others → labels ≡ others
-parts_one octs labels others h g =
-    same_lists 0 labels others (h.each ∙ sym g.each)
-    (λ i l. let m : i < length octs = omega (arith, l, h.each) in
-    least_one (IsMeetingAt octs) IsUpTo up_to_one i (get_or labels i 0) (get_or others i 0) (h.least i m) (g.least i m))
 
 -- ---- the pieces
 module _ (b d : Board) (i k : ℕ) (e : IsLike b d i k) (s : IsSameMade b d (fill_of b) (fill_of d) i k) where

@@ -1,13 +1,13 @@
 -- The fill of a task as one list of pieces: octagons whose union it is, in a fixed order.
-use Rattle.std.specs.Prelude.{◌≡◌, ◌⊎◌, ℕ, List, [], ◌∷◌, ◌++◌, map, length, ℤ}
+use Rattle.std.specs.Prelude.{◌≡◌, ◌⊎◌, ℕ, ◌<◌, List, [], ◌∷◌, ◌++◌, map, length, get_or, ℤ}
 use Rattle.plane.specs.Plane.{Bounds, IsMeeting, ball_of, sum_of}
 use Rattle.grid_num.specs.declared.Point.{Point}
+use Rattle.islands.specs.Parts.{AreParts}
 use Rattle.board_language.specs.Board.{Board}
-use Rattle.fill_rules.specs.Tasks.{task_at, zone_at, layer_at}
+use Rattle.fill_rules.specs.Tasks.{ranked, task_at, zone_at, layer_at}
 use Rattle.fill_rules.specs.Reliefs.{brush_radius, spokes_of}
 use Rattle.fill_rules.specs.Fill.{brush_at, IsLive, IsKept, fill_of}
-use Rattle.fill_rules.specs.Parts.{AreParts}
-use Rattle.fill_rules.specs.Made.{Made}
+use Rattle.fill_rules.specs.Made.{Made, no_fill}
 use Rattle.grid_sets.specs.Rows.{Row, AreRowsOf}
 use Rattle.grid_sets.specs.Bands.{Band, AreBandsOf}
 use Rattle.grid_sets.specs.Cells.{cells_of}
@@ -59,3 +59,8 @@ pub record IsFillOf (b : Board) (i : ℕ) (f : Made) : Type 0 where
   pub task : f.task ≡ task_at b i
   pub pieces : ArePieces b i f.pieces f.spokes
   pub parts : AreParts f.pieces f.parts
+
+-- the fills of all tasks of a board, in rank order
+pub record AreBoardFills (b : Board) (all : List Made) : Type 0 where
+  pub count : length all ≡ length (ranked b)
+  pub each : (i : ℕ) → i < length all → IsFillOf b i (get_or all i no_fill)

@@ -2,13 +2,13 @@
 use Rattle.std.specs.Prelude.{◌≡◌, ◌↔◌, ℕ, ◌<◌, ◌≤◌, ◌-◌, List, [], length, get_or, drop, map}
 use Rattle.plane.specs.Plane.{PlanePoint, Bounds}
 use Rattle.classes.specs.Classes.{IsOneOf}
+use Rattle.islands.specs.Parts.{IsOnePart}
 use Rattle.board_language.specs.Board.{Board}
+use Rattle.board_language.specs.Facts.{IsSoundBoard}
 use Rattle.fill_rules.specs.Tasks.{ranked}
 use Rattle.fill_rules.specs.Fill.{fill_of}
-use Rattle.fill_rules.specs.Sound.{IsSound}
 use Rattle.fill_rules.specs.Dirty.{IsLike, IsSameMade}
 use Rattle.fill_rules.specs.Lists.{InOne, AreFillLists}
-use Rattle.fill_rules.specs.Parts.{IsOnePart}
 use Rattle.fill_rules.specs.Made.{Made, no_fill}
 use Rattle.fills.specs.Fills.{IsCounted, IsFillOf}
 
@@ -30,7 +30,7 @@ SameFillLaw =
 
 -- a point is on one of the pieces exactly where it is in the fill
 abbrev pub FillPointsLaw : Type 0
-FillPointsLaw = (b : Board) → IsSound b → (i : ℕ) (f : Made) → IsFillOf b i f → (p : PlanePoint) → InOne f.pieces p ↔ fill_of b i p
+FillPointsLaw = (b : Board) → IsSoundBoard b → (i : ℕ) (f : Made) → IsFillOf b i f → (p : PlanePoint) → InOne f.pieces p ↔ fill_of b i p
 
 -- the last pieces are the spokes that count
 abbrev pub FillSpokesLaw : Type 0
@@ -48,5 +48,5 @@ pub record FillPartsLaw : Type 0 where
 -- the fills of all tasks, in rank order, are lists that meet the rules one after another
 abbrev pub AllFillsLaw : Type 0
 AllFillsLaw =
-    (b : Board) → IsSound b → (fills : List Made) → ((i : ℕ) → i < length (ranked b) → IsFillOf b i (get_or fills i no_fill))
+    (b : Board) → IsSoundBoard b → (fills : List Made) → ((i : ℕ) → i < length (ranked b) → IsFillOf b i (get_or fills i no_fill))
     → AreFillLists b (map (λ (f : Made). f.pieces) fills)

@@ -1,3 +1,5 @@
 pub mod Fills
+pub mod Above
 pub mod Laws
+pub mod Thick
 pub mod Rows

@@ -4,6 +4,7 @@
 #![tactic(auto)]
 
 ghost use Rattle.fills.specs.Laws.{OneFillLaw, SameFillLaw, FillPointsLaw, AllFillsLaw, FillSpokesLaw, FillPartsLaw};
+ghost use Rattle.fills.specs.Thick.{ThickLaw};
 ghost use Rattle.fills.specs.Rows.{PiecesRow};
 
 use octagon::Oct;
@@ -65,6 +66,11 @@ pub fn spokes_law()
 /// Two pieces have the same number in `parts` exactly where they hang together, and no number is past the piece's own place.
 pub fn parts_law()
     ensures { FillPartsLaw }
+{}
+
+/// No copper of a fill is too thin: each piece is a union of octagons that hold a disc as wide as the zone's least thickness.
+pub fn thick_law()
+    ensures { ThickLaw }
 {}
 
 /// What the definitions give for three rows of centres that are worked by hand.

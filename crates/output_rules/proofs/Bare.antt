@@ -9,8 +9,8 @@ use Rattle.fill_rules.specs.Tasks.{layers_below, ranked}
 use Rattle.fill_rules.specs.Nodes.{rank_in}
 use Rattle.output_rules.specs.Pieces.{Piece, ArePiecesInOrder, replaced}
 use Rattle.output_rules.specs.Rings.{ring_text}
-use Rattle.rings.specs.Rings.{Traced}
-use Rattle.output_rules.specs.Output.{not_traced, layer_name, old_fill, old_fills, rings_text, zone_pieces, pieces_from, board_pieces, text_without_fills, text_with_rings}
+use Rattle.rings.specs.Rings.{Traced, not_traced}
+use Rattle.output_rules.specs.Output.{layer_name, old_fill, old_fills, rings_text, zone_pieces, pieces_from, board_pieces, text_without_fills, text_with_rings}
 use Rattle.output_rules.specs.Laws.{BareLaw}
 use Rattle.output_rules.proofs.Placing.{weaken}
 

@@ -6,7 +6,7 @@ use Rattle.classes.specs.Classes.{IsOneOf}
 use Rattle.board_language.specs.Board.{Board}
 use Rattle.ratsnest.proofs.Unique.{tree_one}
 use Rattle.fill_rules.specs.Ranking.{IsSortedBy}
-use Rattle.fill_rules.proofs.Members.{one_of_map, map_one_of}
+use Rattle.board_language.proofs.Members.{one_of_map, map_one_of}
 use Rattle.fill_rules.specs.Made.{Made}
 use Rattle.fill_rules.specs.Nodes.{nodes_of}
 use Rattle.fill_rules.specs.Clusters.{node_net, net_anchors}

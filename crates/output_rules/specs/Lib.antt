@@ -1,6 +1,7 @@
 pub mod Pieces
 pub mod Rings
 pub mod Output
+pub mod Traced
 pub mod Shown
 pub mod Report
 pub mod Reported

@@ -8,13 +8,9 @@ use Rattle.board_language.specs.Board.{Board}
 use Rattle.board_text.specs.Items.{solid_end}
 use Rattle.fill_rules.specs.Tasks.{Task, layers_below, ranked}
 use Rattle.fill_rules.specs.Nodes.{rank_in}
-use Rattle.rings.specs.Rings.{Traced}
+use Rattle.rings.specs.Rings.{Traced, not_traced}
 use Rattle.output_rules.specs.Pieces.{Piece, replaced}
 use Rattle.output_rules.specs.Rings.{ring_text}
-
--- what stands past the last fill: no rings
-abbrev pub not_traced : Traced
-not_traced = record { rings = []; area2 = 0 }
 
 -- the outlines of a task's fill; they stand in rank order
 abbrev pub traced_of : Board → List Traced → Task → Traced

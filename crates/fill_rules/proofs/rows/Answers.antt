@@ -4,8 +4,10 @@ use Rattle.hulls.specs.Hulls.{hull_of, hulls_of}
 use Rattle.plane.specs.Plane.{ball_of}
 use Rattle.grid_num.specs.Roots.{up2_of}
 use Rattle.fill_rules.specs.Tasks.{ranked, task_zone}
-use Rattle.fill_rules.specs.Needs.{pad_hulls}
+use Rattle.board_language.specs.Copper.{pad_hulls}
 use Rattle.fill_rules.specs.Reliefs.{pad_spokes}
+use Rattle.fill_rules.specs.Fill.{fill_of}
+use Rattle.fill_rules.proofs.Spared.{row_stays, row_goes, row_less}
 use Rattle.fill_rules.proofs.rows.Goals as goal
 
 pub returns-clause-spokes : goal.returns-clause-spokes
@@ -27,3 +29,12 @@ returns-clause-edge c = refl
 
 pub returns-clause-brush : goal.returns-clause-brush
 returns-clause-brush c = refl
+
+pub returns-clause-island : goal.returns-clause-island
+returns-clause-island c = λ b i x n. (row_stays b (fill_of b) i x n, row_goes b (fill_of b) i x n)
+
+pub returns-clause-less_island : goal.returns-clause-less_island
+returns-clause-less_island c = λ b i x n. row_less b (fill_of b) i x n
+
+pub returns-clause-modes : goal.returns-clause-modes
+returns-clause-modes c = λ b i x. (tt, λ s. s)

@@ -40,7 +40,9 @@ pub returns-clause-splices : goal.returns-clause-splices
 unfolding values_text list_text track_line via_line priority_splice clearance_splice
 returns-clause-splices c = record {
   track = simp (digit 0 (omega arith), digit 3 (omega arith), digit 5 (omega arith), digit 8 (omega arith), digit 9 (omega arith)) refl;
+  newer_track = simp (digit 0 (omega arith), digit 3 (omega arith), digit 5 (omega arith), digit 8 (omega arith), digit 9 (omega arith)) refl;
   via = simp (digit 0 (omega arith), digit 1 (omega arith), digit 5 (omega arith)) refl;
+  newer_via = simp (digit 0 (omega arith), digit 1 (omega arith), digit 5 (omega arith)) refl;
   drop = refl;
   priority = simp (digit 2 (omega arith)) refl;
   new_priority = simp (digit 2 (omega arith)) refl;
