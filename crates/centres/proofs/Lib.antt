@@ -1,0 +1,10 @@
+pub mod Listed
+pub mod Covered
+pub mod Walls
+pub mod Fits
+pub mod Frames
+pub mod Home
+pub mod Clear
+pub mod Real
+pub mod Allowed
+pub mod Spokes

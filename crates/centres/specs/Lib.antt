@@ -1,0 +1,4 @@
+pub mod Walls
+pub mod Needs
+pub mod Centres
+pub mod Laws

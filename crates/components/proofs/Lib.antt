@@ -1,0 +1,11 @@
+pub mod Places
+pub mod Brushes
+pub mod Flagged
+pub mod Linked
+pub mod Components
+pub mod First
+pub mod Anchored
+pub mod Size
+pub mod Kept
+pub mod Meets
+pub mod Pieces
