@@ -4,7 +4,7 @@ use Rattle.classes.specs.Classes.{IsOneOf}
 use Rattle.board_language.specs.Board.{Board}
 use Rattle.fill_rules.specs.Made.{Made}
 use Rattle.fills.proofs.Same.{one_fill}
-use Rattle.fill_pool.specs.Runs.{AreRanksAscending, AreFillsOfTasks}
+use Rattle.fills.specs.Above.{AreRanksAscending, AreFillsOfTasks}
 use Rattle.fill_pool.specs.Laws.{OneAboveLaw}
 
 from_low : (low : ℕ) (js : List ℕ) → AreRanksAscending low js → (x : ℕ) → IsOneOf x js → low ≤ x

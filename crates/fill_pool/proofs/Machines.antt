@@ -11,7 +11,8 @@ use Rattle.pool_rules.specs.declared.Slot.TheVariants.{Waiting, Held, Finished, 
 use Rattle.pool_rules.specs.Runs.{PoolState, slot_at, opening, pool_step, IsLawful}
 use Rattle.pool_rules.proofs.Runs.{waiting_within, run_more}
 use Rattle.fill_pool.specs.Slots.{IsReadyRow}
-use Rattle.fill_pool.specs.Runs.{count_of, state_of, IsRunOf, IsHalted, IsReadyIn, IsNext, NoneReady, IsHeld, AllFinished, NoneHeld, AreReaching, IsTableOf}
+use Rattle.fill_pool.specs.Runs.{count_of, state_of, IsRunOf, IsHalted, IsReadyIn, IsNext, NoneReady, IsHeld, AllFinished, NoneHeld, IsTableOf}
+use Rattle.fills.specs.Above.{AreReaching}
 use Rattle.fill_pool.specs.Fields.{IsMachine}
 use Rattle.fill_pool.proofs.Boards.{all_one_of, one_of_get, table_reach, slots_size, waiting_in, halted_is, calm_is, take_follows, finish_follows, back_follows, run_short, reach_of}
 

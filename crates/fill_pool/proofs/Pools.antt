@@ -16,7 +16,8 @@ use Rattle.pool_rules.specs.Runs.{PoolState, slot_at, opening, pool_step}
 use Rattle.pool_rules.proofs.Runs.{waiting_within, held_within, run_more, get_or-replicate}
 use Rattle.fill_rules.specs.Made.{Made, no_fill}
 use Rattle.fills.specs.Fills.{IsFillOf}
-use Rattle.fill_pool.specs.Runs.{count_of, state_of, IsRunOf, IsNext, IsHeld, AllFinished, AreReaching, AreFillsOfTasks, AreFillsAbove}
+use Rattle.fill_pool.specs.Runs.{count_of, state_of, IsRunOf, IsNext, IsHeld, AllFinished}
+use Rattle.fills.specs.Above.{AreReaching, AreFillsOfTasks, AreFillsAbove}
 use Rattle.fill_pool.specs.Slots.{IsFull, made_in_slot, made_at}
 use Rattle.fill_pool.specs.Fields.{HasFill, IsPool}
 use Rattle.fill_pool.proofs.Boards.{one_of_get, held_in, above_done}

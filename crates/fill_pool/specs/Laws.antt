@@ -8,7 +8,8 @@ use Rattle.pool_rules.specs.Runs.{slot_at}
 use Rattle.pool_rules.specs.declared.Slot.TheVariants.{Finished}
 use Rattle.pool_rules.specs.Laws.{finishes, takes}
 use Rattle.fill_rules.specs.Made.{Made}
-use Rattle.fill_pool.specs.Runs.{count_of, state_of, IsRunOf, IsHalted, IsNext, IsHeld, NoneHeld, AreFillsAbove}
+use Rattle.fill_pool.specs.Runs.{count_of, state_of, IsRunOf, IsHalted, IsNext, IsHeld, NoneHeld}
+use Rattle.fills.specs.Above.{AreFillsAbove}
 
 -- what every lawful run of a board has, of any length and with any workers
 pub record IsGoodRunOf (b : Board) (events : List PoolEvent) : Type 0 where

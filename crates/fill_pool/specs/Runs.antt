@@ -1,5 +1,5 @@
 -- What may happen in the pool of one board, in the board's own words: tasks by their rank, and which of them reach which.
-use Rattle.std.specs.Prelude.{◌≡◌, ◌↔◌, ℕ, ◌+◌, ◌<◌, ◌≤◌, Bool, true, List, [], ◌∷◌, length, get_or}
+use Rattle.std.specs.Prelude.{◌≡◌, ◌↔◌, ℕ, ◌<◌, Bool, true, List, [], length, get_or}
 use Rattle.classes.specs.Classes.{IsOneOf}
 use Rattle.board_language.specs.Board.{Board}
 use Rattle.fill_rules.specs.Tasks.{Task, ranked}
@@ -10,6 +10,7 @@ use Rattle.pool_rules.specs.declared.Slot.TheVariants.{Waiting, Held, Finished}
 use Rattle.pool_rules.specs.Runs.{PoolState, slot_at, opening, run, IsLawful}
 use Rattle.fill_rules.specs.Made.{Made, no_fill}
 use Rattle.fills.specs.Fills.{IsFillOf}
+use Rattle.fills.specs.Above.{AreReaching}
 
 -- how many tasks a board has
 abbrev pub count_of : Board → ℕ
@@ -70,34 +71,11 @@ pub record Leave : Type 0 where
 abbrev pub IsHolding : Board → List PoolEvent → Leave → Type 0
 IsHolding b events t = IsHeld b events t.worker t.number
 
--- ---- the tasks that reach a task, and their fills
-
--- in rank order, and none twice; the first is low or more
-abbrev pub AreRanksAscending : ℕ → List ℕ → Type 0
-AreRanksAscending low [] = Unit {0}
-AreRanksAscending low (j ∷ js) = (low ≤ j) × AreRanksAscending (j + 1) js
-
--- they are the ranks of the tasks that reach the task, in rank order
-pub record AreReaching (b : Board) (i : ℕ) (js : List ℕ) : Type 0 where
-  pub order : AreRanksAscending 0 js
-  pub same : (j : ℕ) → IsOneOf j js ↔ IsReaching b j i
+-- ---- the fills of tasks
 
 -- the list has the fill of each task of the board, in rank order
 abbrev pub HasEachFill : Board → List Made → Type 0
 HasEachFill b fills = (i : ℕ) → i < count_of b → IsFillOf b i (get_or fills i no_fill)
-
--- one by one, the fills of these tasks
-abbrev pub AreFillsOfTasks : Board → List ℕ → List Made → Type 0
-AreFillsOfTasks b [] [] = Unit {0}
-AreFillsOfTasks b [] (f ∷ fs) = ⊥
-AreFillsOfTasks b (j ∷ js) [] = ⊥
-AreFillsOfTasks b (j ∷ js) (f ∷ fs) = IsFillOf b j f × AreFillsOfTasks b js fs
-
--- they are the fills of exactly the tasks that reach the task, in rank order
-pub record AreFillsAbove (b : Board) (i : ℕ) (fills : List Made) : Type 0 where
-  pub tasks : List ℕ
-  pub reaching : AreReaching b i tasks
-  pub each : AreFillsOfTasks b tasks fills
 
 -- for each task of the board, the ranks of the tasks that reach it
 pub record IsTableOf (b : Board) (table : List (List ℕ)) : Type 0 where

@@ -2,7 +2,7 @@
 use Rattle.std.specs.Prelude.{List}
 use Rattle.board_language.specs.Board.{Board}
 use Rattle.fill_rules.specs.Made.{Made}
-use Rattle.fill_pool.specs.Runs.{AreFillsAbove}
+use Rattle.fills.specs.Above.{AreFillsAbove}
 use Rattle.fill_pool.specs.declared.workers.Next.{Next}
 use Rattle.fill_pool.specs.declared.workers.Next.TheVariants.{Fill, GiveBack, Again, End}
 

@@ -1,7 +1,8 @@
 // How the tasks of a board stand, and all that happened, without the fills.
 ghost use Rattle.std.specs.Prelude.{◌≡◌, ◌⊎◌, ◌↔◌, ℕ, ◌<◌, ◌^◌, List, [], ◌∷◌, ◌++◌, length, map, IfSome, IfNone, IfOk, IsTrue, IsFalse, true};
 ghost use Rattle.pool_rules.specs.declared.PoolEvent.TheVariants.{Take, Finish, Back};
-ghost use Rattle.fill_pool.specs.Runs.{count_of, state_of, IsRunOf, IsHalted, IsNext, NoneReady, IsHeld, AllFinished, NoneHeld, AreReaching, IsTableOf};
+ghost use Rattle.fill_pool.specs.Runs.{count_of, state_of, IsRunOf, IsHalted, IsNext, NoneReady, IsHeld, AllFinished, NoneHeld, IsTableOf};
+ghost use Rattle.fills.specs.Above.{AreReaching};
 
 use crate::Named;
 use crate::slots::{all_done, first_ready, is_held_by, none_held};

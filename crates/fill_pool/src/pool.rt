@@ -4,7 +4,8 @@ ghost use Rattle.std.specs.Arc.{arc_value};
 ghost use Rattle.fill_rules.specs.Tasks.{ranked, task_at};
 ghost use Rattle.pool_rules.specs.declared.PoolEvent.TheVariants.{Take, Finish, Back};
 ghost use Rattle.fills.specs.Fills.{task_of, IsFillOf};
-ghost use Rattle.fill_pool.specs.Runs.{count_of, IsRunOf, IsHalted, IsNext, NoneReady, AllFinished, NoneHeld, IsHolding, AreFillsAbove, HasEachFill, IsTableOf};
+ghost use Rattle.fill_pool.specs.Runs.{count_of, IsRunOf, IsHalted, IsNext, NoneReady, AllFinished, NoneHeld, IsHolding, HasEachFill, IsTableOf};
+ghost use Rattle.fills.specs.Above.{AreFillsAbove};
 
 use crate::copies::{copy_row, into_all, no_fills};
 use crate::machine::Machine;

@@ -3,7 +3,8 @@ ghost use Rattle.std.specs.Prelude.{◌≡◌, ◌+◌, ◌<◌, ◌≤◌, leng
 ghost use Rattle.std.specs.Arc.{arc_value};
 ghost use Rattle.std.specs.Thread.{IsSync};
 ghost use Rattle.fills.specs.Fills.{IsFillOf};
-ghost use Rattle.fill_pool.specs.Runs.{count_of, AreFillsAbove, HasEachFill};
+ghost use Rattle.fill_pool.specs.Runs.{count_of, HasEachFill};
+ghost use Rattle.fills.specs.Above.{AreFillsAbove};
 ghost use Rattle.fill_pool.specs.Workers.{HasAbove};
 
 use crate::{Named, Pool, Ticket};

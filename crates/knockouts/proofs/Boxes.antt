@@ -1,6 +1,6 @@
 -- Upright rectangles by their corners, and centres rounded down.
-use Rattle.std.proofs.Common.{◌≡◌, ◌∙◌, ap, subst, ℕ, suc, ◌+◌, ◌/◌, arith, w64, to_z, of_z, List, [], ◌∷◌, get_or}
-use Rattle.std.specs.Prelude.{ℤ, pos, negsuc, ◌+ℤ◌, ◌-ℤ◌, ◌≤ℤ◌, ◌^◌}
+use Rattle.std.proofs.Common.{◌≡◌, ◌∙◌, ap, subst, ℕ, arith, w64, to_z, of_z, List, [], ◌∷◌, get_or}
+use Rattle.std.specs.Prelude.{ℤ, pos, ◌+ℤ◌, ◌-ℤ◌, ◌≤ℤ◌, ◌^◌}
 use Rattle.std.proofs.lemmas.List.Elements.{All-cons, All-nil}
 use Rattle.std.specs.List.{All}
 use Rattle.std.proofs.lemmas.Int.{ints}
@@ -13,13 +13,13 @@ use Rattle.octagon.specs.Room.{IsAround}
 use Rattle.cores.specs.Room.{IsInRoom}
 use Rattle.hulls.specs.Cells.{floor_of, around}
 use Rattle.hulls.proofs.Around.{Holds, IsInside, around_inside, one_least_law}
-use Rattle.fill_rules.proofs.Sound.{halved}
+use Rattle.board_language.proofs.Centres.{halved}
 use Rattle.knockouts.specs.Spokes.{IsSpokeHull}
 
 abbrev pub corners : ℤ → ℤ → ℤ → ℤ → List Point
 corners l r t b = record { x = l; y = t } ∷ record { x = r; y = t } ∷ record { x = l; y = b } ∷ record { x = r; y = b } ∷ []
 
-box_tight : (l r t b : ℤ) → l ≤ℤ r → t ≤ℤ b → IsTight (box_of l r t b)
+pub box_tight : (l r t b : ℤ) → l ≤ℤ r → t ≤ℤ b → IsTight (box_of l r t b)
 box_tight l r t b w h = record {
   top_left = omega (arith, ints);
   top = omega (arith, ints);

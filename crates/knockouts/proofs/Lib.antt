@@ -1,9 +1,12 @@
 pub mod Walks
+pub mod Sorting
 pub mod Placing
 pub mod Roles
 pub mod Pushed
 pub mod Boxes
 pub mod Near
-pub mod Alike
+pub mod Reading
+pub mod Gaps
 pub mod Clearing
-pub mod InRange
+pub mod PieceRange
+pub mod Range

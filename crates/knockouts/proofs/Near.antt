@@ -1,6 +1,6 @@
 -- Octagons that can't be said not to be near are near; and what ranks say of tasks.
 use Rattle.std.proofs.Common.{◌≡◌, refl, sym, subst, ℕ, zero, suc, ◌<◌, ◌≤◌, inl, inr, arith, List, [], ◌∷◌, length, get_or}
-use Rattle.std.specs.Prelude.{ℤ, ◌≤ℤ◌, ◌<ℤ◌, ◌↔◌, ◌+◌, ◌/◌, max, Bool, true, false, not, IsTrue, int_lt}
+use Rattle.std.specs.Prelude.{ℤ, ◌≤ℤ◌, ◌<ℤ◌, ◌↔◌, ◌+◌, ◌/◌, max, Bool, true, false, not, ◌&&◌, IsTrue, int_lt}
 use Rattle.std.proofs.lemmas.Bool.{cases_lt, cases_eq, false≢true}
 use Rattle.std.proofs.lemmas.Int.{ints}
 use Rattle.std.specs.List.{All}
@@ -12,10 +12,13 @@ use Rattle.hulls.proofs.Around.{one_least_law}
 use Rattle.outline_slab.specs.Rules.{IsSimple}
 use Rattle.classes.specs.Classes.{IsOneOf}
 use Rattle.board_language.specs.Board.{Board}
-use Rattle.fill_rules.specs.Tasks.{Task, zone_at, ranked, task_at, no_task}
+use Rattle.board_language.specs.declared.board.Zone.{Zone}
+use Rattle.fill_rules.specs.Tasks.{Task, settings_of, task_zone, zone_at, ranked, task_at, no_task}
+use Rattle.fill_rules.specs.Needs.{zone_need}
 use Rattle.fill_rules.specs.Ranking.{Outranks, IsSortedBy}
 use Rattle.fill_rules.proofs.Ranking.{ranked_is}
-use Rattle.knockouts.specs.Reaching.{RanksLaw}
+use Rattle.knockouts.specs.Reaching.{ReachesTask, RanksLaw}
+use Rattle.knockouts.specs.Inner.Above.{IsAboveForeign}
 
 -- ---- near or not
 lt_true : (a b : ℤ) → int_lt a b ≡ true → a <ℤ b
@@ -105,3 +108,28 @@ frames_near a o p f g apart one hf hg ef eg h = rw (← ef, ← eg) (by_cases ap
 
 pub need_some : (a b floor n : ℕ) → 1 ≤ floor → n ≡ (max (max a b) floor + 1) / 2 → 1 ≤ n
 need_some a b floor n h e = omega (arith, h, e)
+
+-- ---- reaching
+there : (b : Board) (s t : Task) (y z : Zone) → y ≡ task_zone b s → z ≡ task_zone b t → IsAboveForeign y s z t
+    → AreNear (zone_need b (settings_of y) (settings_of z)) (around z.outline) (around y.outline) → ReachesTask b s t
+there b s t y z ey ez a n =
+    let above : IsAboveForeign (task_zone b s) s (task_zone b t) t = subst (λ (v : Zone). IsAboveForeign (task_zone b s) s v t) ez (subst (λ (u : Zone). IsAboveForeign u s z t) ey a) in
+    let near = subst (λ (v : Zone). AreNear (zone_need b (settings_of (task_zone b s)) (settings_of v)) (around v.outline) (around (task_zone b s).outline)) ez
+    (subst (λ (u : Zone). AreNear (zone_need b (settings_of u) (settings_of z)) (around z.outline) (around u.outline)) ey n) in
+    record { above = above.above; layer = above.layer; foreign = above.foreign; near = near }
+
+above_from : (b : Board) (s t : Task) (y z : Zone) → y ≡ task_zone b s → z ≡ task_zone b t → ReachesTask b s t → IsAboveForeign y s z t
+above_from b s t y z ey ez r =
+    subst (λ (u : Zone). IsAboveForeign u s z t) (sym ey) (subst (λ (v : Zone). IsAboveForeign (task_zone b s) s v t) (sym ez) (record { layer = r.layer; foreign = r.foreign; above = r.above }))
+
+near_from : (b : Board) (s t : Task) (y z : Zone) → y ≡ task_zone b s → z ≡ task_zone b t → ReachesTask b s t
+    → AreNear (zone_need b (settings_of y) (settings_of z)) (around z.outline) (around y.outline)
+near_from b s t y z ey ez r =
+    subst (λ (u : Zone). AreNear (zone_need b (settings_of u) (settings_of z)) (around z.outline) (around u.outline)) (sym ey)
+    (subst (λ (v : Zone). AreNear (zone_need b (settings_of (task_zone b s)) (settings_of v)) (around v.outline) (around (task_zone b s).outline)) (sym ez) r.near)
+
+pub reaches : (b : Board) (s t : Task) (y z : Zone) (above near : Bool) → y ≡ task_zone b s → z ≡ task_zone b t → IsTrue above ↔ IsAboveForeign y s z t
+    → IsTrue near ↔ AreNear (zone_need b (settings_of y) (settings_of z)) (around z.outline) (around y.outline) → IsTrue (above && near) ↔ ReachesTask b s t
+reaches b s t y z true true ey ez a n = (λ e. there b s t y z ey ez (a.0 refl) (n.0 refl), λ r. refl)
+reaches b s t y z true false ey ez a n = (λ e. absurd (false≢true e), λ r. n.1 (near_from b s t y z ey ez r))
+reaches b s t y z false near ey ez a n = (λ e. absurd (false≢true e), λ r. a.1 (above_from b s t y z ey ez r))

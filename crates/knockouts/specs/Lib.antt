@@ -1,8 +1,9 @@
-pub mod Items
 pub mod OfTask
 pub mod Treatments
 pub mod Obstacles
 pub mod Spokes
 pub mod Reaching
-pub mod Lent
+pub mod Gaps
 pub mod Clear
+pub mod Rows
+pub mod Inner

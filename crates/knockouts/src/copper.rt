@@ -3,7 +3,7 @@ ghost use Rattle.std.specs.Prelude.{◌≡◌};
 ghost use Rattle.cores.specs.Room.{IsInRoom};
 ghost use Rattle.hulls.specs.Hulls.{in_halves, corner};
 ghost use Rattle.fill_rules.specs.Needs.{track_copper, via_copper};
-ghost use Rattle.knockouts.specs.Items.{IsTrackReady, IsViaReady};
+ghost use Rattle.knockouts.specs.Inner.Reach.{IsTrackInReach, IsViaInReach};
 
 use board_language::{Track, Via};
 use copper_shape::Shape;
@@ -11,7 +11,7 @@ use grid_num::Point;
 
 /// All that is at most half the track's width away from its middle line.
 pub fn track_copper(track: &Track) -> Shape
-    requires { IsTrackReady track.now }
+    requires { IsTrackInReach track.now }
     ensures { result ≡ track_copper track.now }
 {
     Shape::capsule(in_halves(track.from), in_halves(track.to), track.width)
@@ -19,7 +19,7 @@ pub fn track_copper(track: &Track) -> Shape
 
 /// The via's disc.
 pub fn via_copper(via: &Via) -> Shape
-    requires { IsViaReady via.now }
+    requires { IsViaInReach via.now }
     ensures { result ≡ via_copper via.now }
 {
     Shape::disc(in_halves(via.at), via.size)

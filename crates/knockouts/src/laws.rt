@@ -1,26 +1,33 @@
 //! What the answers mean to the layer above. Nothing here runs.
-ghost use Rattle.knockouts.specs.Clear.{ClearByBarsLaw};
-ghost use Rattle.knockouts.specs.Lent.{GapsLaw, LentLaw};
+ghost use Rattle.knockouts.specs.Clear.{ClearByBarsLaw, NeedRangeLaw};
+ghost use Rattle.knockouts.specs.Gaps.{GapsLaw, OneGapLaw};
 ghost use Rattle.knockouts.specs.Reaching.{RanksLaw};
-
-/// What is told of the items that a board lends holds of the board: its layers count by their number alone, its nets not at
-/// all.
-pub fn lent_law()
-    ensures { LentLaw }
-{}
+ghost use Rattle.knockouts.specs.Rows.{NeedsRow};
 
 /// A task reaches another by their ranks exactly where it reaches it as a task.
 pub fn ranks_law()
     ensures { RanksLaw }
 {}
 
-/// The gaps that stand last among the needs are a quarter as many as the spokes, pad by pad.
+/// The gaps that stand last among the needs are a quarter as many as the spokes, pad by pad: one round each pad that is joined
+/// by spokes.
 pub fn gaps_law()
-    ensures { GapsLaw }
+    ensures spokes { GapsLaw }
+    ensures one { OneGapLaw }
 {}
 
 /// An octagon in the frame of the task's outline is clear exactly where it keeps the need of each entry before the gaps,
-/// where the fills that are handed in are those of the tasks that reach it.
+/// over the fills of the tasks that reach it.
 pub fn clear_law()
     ensures { ClearByBarsLaw }
+{}
+
+/// Each entry of the needs is an octagon within 2^31 units of 0, to be kept away from by 1 unit to 2^31.
+pub fn range_law()
+    ensures { NeedRangeLaw }
+{}
+
+/// What the needs are, in numbers, of a task below one fill.
+pub fn rows()
+    ensures { NeedsRow }
 {}

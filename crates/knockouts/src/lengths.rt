@@ -3,10 +3,9 @@ ghost use Rattle.std.specs.Prelude.{◌≡◌, ◌+◌, ◌/◌, ◌≤◌, ◌^
 ghost use Rattle.fill_rules.specs.Tasks.{settings_of};
 ghost use Rattle.fill_rules.specs.Needs.{is_foreign, units, item_need, zone_need, edge_need};
 ghost use Rattle.fill_rules.specs.Reliefs.{brush_radius};
-ghost use Rattle.knockouts.specs.Items.{lent_board};
 
-use crate::items::Items;
 use board_language::Zone;
+use board_model::Board;
 
 /// Nanometres as a distance in units, rounded up.
 pub fn units(nanometres: u32) -> u32
@@ -32,27 +31,31 @@ pub fn is_foreign(net: u32, other: u32) -> bool
 }
 
 /// How far copper of the zone stays from an item with a clearance of its own, in units.
-pub fn item_need(items: &Items<'_>, zone: &Zone, own: u32) -> u32
-    ensures value { result ≡ item_need (lent_board items.now) (settings_of zone.now) own }
+pub fn item_need(board: &Board, zone: &Zone, own: u32) -> u32
+    ensures value { result ≡ item_need board.now.board (settings_of zone.now) own }
     ensures most { result ≤ 2 ^ 31 }
 {
-    units(zone.clearance.max(own).max(items.rules.floor))
+    let rules = board.rules();
+    units(zone.clearance.max(own).max(rules.floor))
 }
 
 /// How far copper of the one zone stays from copper of the other, in units.
-pub fn zone_need(items: &Items<'_>, upper: &Zone, lower: &Zone) -> u32
-    ensures value { result ≡ zone_need (lent_board items.now) (settings_of upper.now) (settings_of lower.now) }
+pub fn zone_need(board: &Board, upper: &Zone, lower: &Zone) -> u32
+    ensures value { result ≡ zone_need board.now.board (settings_of upper.now) (settings_of lower.now) }
+    ensures least { 1 ≤ result }
     ensures most { result ≤ 2 ^ 31 }
 {
-    units(upper.clearance.max(lower.clearance).max(items.rules.floor))
+    let rules = board.rules();
+    units(upper.clearance.max(lower.clearance).max(rules.floor))
 }
 
 /// How far copper stays from the board's edge, in units.
-pub fn edge_need(items: &Items<'_>) -> u32
-    ensures value { result ≡ edge_need (lent_board items.now) }
+pub fn edge_need(board: &Board) -> u32
+    ensures value { result ≡ edge_need board.now.board }
     ensures most { result ≤ 2 ^ 31 }
 {
-    units(items.rules.edge)
+    let rules = board.rules();
+    units(rules.edge)
 }
 
 /// How far the zone's brush reaches, in units.

@@ -1,90 +1,57 @@
 // The tasks of a board in rank order.
 ghost use Rattle.std.specs.Prelude.{◌≡◌, ◌++◌, ◌∷◌, [], ◌<◌, ◌≤◌, cond, length, map, IfOk};
-ghost use Rattle.std.specs.List.{All, insert};
-ghost use Rattle.fill_rules.specs.Tasks.{ranked, put_by_priority, put_all, tasks_from, has_layer, layers_below, task_zone};
-ghost use Rattle.knockouts.specs.Items.{lent_board, IsTaskInRange, AreItemsReady};
+ghost use Rattle.std.specs.List.{All};
+ghost use Rattle.board_language.specs.Copper.{has_layer};
+ghost use Rattle.fill_rules.specs.Tasks.{ranked, tasks_from, layers_below, task_zone};
+ghost use Rattle.fill_rules.specs.Ranking.{IsTask};
 ghost use Rattle.fills.specs.Fills.{task_of};
 
-use crate::items::Items;
 use board_language::Zone;
+use board_model::Board;
 use fills::Task;
 use grid_num::Memory;
 use std::alloc::Global;
+use std::cmp::Reverse;
 
-/// All tasks of the board in rank order: by priority downward, then as the zones stand in the file, then by layer.
+/// All tasks of the board in rank order: by priority downward, then as the zones stand in the file, then by layer. Each is one of
+/// the board's.
 ///
 /// # Errors
 ///
 /// Want of memory.
-#[tactic(auto, unfolding(fill_rules::specs::Tasks::ranked))]
-pub fn tasks(alloc: Global, items: &Items<'_>) -> Result<Vec<Task>, Memory>
-    requires { AreItemsReady items.now }
-    ensures order { IfOk result (λ tasks. map task_of tasks.items ≡ ranked (lent_board items.now)) }
-    ensures each { IfOk result (λ tasks. All (IsTaskInRange items.now) tasks.items) }
+pub fn tasks(alloc: Global, board: &Board) -> Result<Vec<Task>, Memory>
+    ensures order { IfOk result (λ tasks. map task_of tasks.items ≡ ranked board.now.board) }
+    ensures each { IfOk result (λ tasks. All (λ task. IsTask board.now.board (task_of task)) tasks.items) }
 {
-    let filed = filed_tasks(alloc, items)?;
-    let ranked = in_order(alloc, items, &filed)?;
+    board.sound();
+    let count = board.layers().len() as u8;
+    let mut ranked = filed_tasks(alloc, board.zones(), count)?;
+    ranked.sort_by_key(|task| Reverse(priority_of(board, *task)))?;
     Ok(ranked)
 }
 
-// The tasks, put into their places from the last to the first.
-fn in_order(alloc: Global, items: &Items<'_>, filed: &[Task]) -> Result<Vec<Task>, Memory>
-    ensures { IfOk result (λ tasks. map task_of tasks.items ≡ put_all (lent_board items.now) (map task_of filed.now)) }
-{
-    let mut ranked = Vec::with_capacity(alloc, filed.len())?;
-    'each: for step in 0..filed.len() {
-        let task = filed[filed.len() - 1 - step];
-        ranked = put(items, ranked, task)?;
-    }
-    Ok(ranked)
-}
-
-// Puts a task before those of no greater priority.
-fn put(items: &Items<'_>, ranked: Vec<Task>, task: Task) -> Result<Vec<Task>, Memory>
-    ensures { IfOk result (λ tasks. map task_of tasks.items ≡ put_by_priority (lent_board items.now) (task_of task) (map task_of ranked.items)) }
-{
-    let mut ranked = ranked;
-    let place = place_of(items, &ranked, task);
-    ranked.insert(place, task)?;
-    Ok(ranked)
-}
-
-// The place of the first task of no greater priority; behind all where there is none.
-fn place_of(items: &Items<'_>, ranked: &[Task], task: Task) -> usize
-    ensures place { insert (map task_of ranked.now) result (task_of task) ≡ put_by_priority (lent_board items.now) (task_of task) (map task_of ranked.now) }
-    ensures most { result ≤ length ranked.now }
-{
-    let priority = priority_of(items, task);
-    'each: for (i, other) in ranked.iter().enumerate() {
-        if priority_of(items, *other) <= priority {
-            return i;
-        }
-    }
-    ranked.len()
-}
-
-/// The priority of the task's zone.
+// The priority of the task's zone.
 #[tactic(auto, unfolding(fill_rules::specs::Tasks::task_zone))]
-pub fn priority_of(items: &Items<'_>, task: Task) -> u32
-    ensures { result ≡ (task_zone (lent_board items.now) (task_of task)).priority }
+fn priority_of(board: &Board, task: Task) -> u32
+    ensures { result ≡ (task_zone board.now.board (task_of task)).priority }
 {
     let place = task.zone as usize;
-    if place < items.zones.len() {
-        items.zones[place].priority
+    if place < board.zones().len() {
+        board.zones()[place].priority
     } else {
         0
     }
 }
 
 // The tasks of all zones in file order, each zone's by layer.
-fn filed_tasks(alloc: Global, items: &Items<'_>) -> Result<Vec<Task>, Memory>
-    requires { AreItemsReady items.now }
-    ensures { IfOk result (λ tasks. map task_of tasks.items ≡ tasks_from items.now.layers 0 items.now.zones.now) }
+fn filed_tasks(alloc: Global, zones: &[Zone], count: u8) -> Result<Vec<Task>, Memory>
+    requires zones { length zones.now ≤ 2000 }
+    requires layers { count ≤ 32 }
+    ensures { IfOk result (λ tasks. map task_of tasks.items ≡ tasks_from count 0 zones.now) }
 {
-    let zones = items.zones;
     let mut tasks = Vec::new(alloc);
     'each: for (i, zone) in zones.iter().enumerate() {
-        tasks = with_layers(tasks, i as u32, zone.layers, items.layers as u8)?;
+        tasks = with_layers(tasks, i as u32, zone.layers, count)?;
     }
     Ok(tasks)
 }
@@ -122,10 +89,10 @@ pub fn has_layer(layers: u32, layer: u8) -> bool
 
 /// The task's zone.
 #[tactic(auto, unfolding(fill_rules::specs::Tasks::task_zone))]
-pub fn zone_of<'a>(items: &Items<'a>, task: Task) -> &'a Zone
-    requires { IsTaskInRange items.now task }
-    ensures { result.now ≡ task_zone (lent_board items.now) (task_of task) }
+pub fn zone_of(board: &Board, task: Task) -> &Zone
+    requires { IsTask board.now.board (task_of task) }
+    ensures { result.now ≡ task_zone board.now.board (task_of task) }
 {
-    let zones = items.zones;
+    let zones = board.zones();
     &zones[task.zone as usize]
 }

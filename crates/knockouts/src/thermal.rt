@@ -13,18 +13,20 @@ ghost use Rattle.octagon.specs.Bounded.{IsNearZero};
 ghost use Rattle.cores.specs.Room.{IsInRoom};
 ghost use Rattle.hulls.specs.Cells.{floor_of};
 ghost use Rattle.fill_rules.specs.Tasks.{settings_of};
-ghost use Rattle.fill_rules.specs.Needs.{pad_hulls};
+ghost use Rattle.board_language.specs.Copper.{pad_hulls};
 ghost use Rattle.fill_rules.specs.Reliefs.{half_bridge, spokes_by, pad_spokes};
-ghost use Rattle.knockouts.specs.Items.{IsTaskInRange, AreItemsReady, IsPadReady};
+ghost use Rattle.fill_rules.specs.Ranking.{IsTask};
+ghost use Rattle.fills.specs.Fills.{task_of};
+ghost use Rattle.knockouts.specs.Inner.Reach.{IsPadInReach};
 ghost use Rattle.knockouts.specs.OfTask.{task_spokes};
 ghost use Rattle.knockouts.specs.Spokes.{IsRelief, IsSpokeHull, thermal_spokes, four_spokes, east_spoke, south_spoke, west_spoke, north_spoke};
 
-use crate::items::Items;
 use crate::lengths::{brush_radius, half_units};
 use crate::obstacles::gap_of;
 use crate::pads::is_thermal;
 use crate::rank::zone_of;
 use board_language::{Pad, Zone};
+use board_model::Board;
 use fills::Task;
 use grid_num::{Memory, Point, ceil_div};
 use octagon::Oct;
@@ -37,20 +39,19 @@ use std::alloc::Global;
 ///
 /// Want of memory.
 #[tactic(auto, unfolding(fill_rules::specs::Reliefs::spokes_of))]
-pub fn spokes(alloc: Global, items: &Items<'_>, task: Task) -> Result<Vec<Oct>, Memory>
-    requires ready { AreItemsReady items.now }
-    requires task { IsTaskInRange items.now task }
-    ensures { IfOk result (λ v. v.items ≡ task_spokes items.now task) }
+pub fn spokes(alloc: Global, board: &Board, task: Task) -> Result<Vec<Oct>, Memory>
+    requires { IsTask board.now.board (task_of task) }
+    ensures { IfOk result (λ v. v.items ≡ task_spokes board.now.board (task_of task)) }
 {
-    of_pads(alloc, items, zone_of(items, task), task.layer)
+    board.sound();
+    of_pads(alloc, zone_of(board, task), task.layer, board.pads())
 }
 
-fn of_pads(alloc: Global, items: &Items<'_>, zone: &Zone, layer: u8) -> Result<Vec<Oct>, Memory>
-    requires ready { AreItemsReady items.now }
+fn of_pads(alloc: Global, zone: &Zone, layer: u8, pads: &[Pad]) -> Result<Vec<Oct>, Memory>
     requires layer { layer < 32 }
-    ensures { IfOk result (λ v. v.items ≡ flat_map (thermal_spokes (settings_of zone.now) layer) items.now.pads.now) }
+    requires sound { All IsPadInReach pads.now }
+    ensures { IfOk result (λ v. v.items ≡ flat_map (thermal_spokes (settings_of zone.now) layer) pads.now) }
 {
-    let pads = items.pads;
     let mut spokes = Vec::new(alloc);
     'each: for pad in pads {
         let mut more = of_pad(alloc, zone, layer, pad)?;
@@ -62,7 +63,7 @@ fn of_pads(alloc: Global, items: &Items<'_>, zone: &Zone, layer: u8) -> Result<V
 // The spokes of a pad that the zone joins by spokes; none of another.
 fn of_pad(alloc: Global, zone: &Zone, layer: u8, pad: &Pad) -> Result<Vec<Oct>, Memory>
     requires layer { layer < 32 }
-    requires pad { IsPadReady pad.now }
+    requires pad { IsPadInReach pad.now }
     ensures { IfOk result (λ v. v.items ≡ thermal_spokes (settings_of zone.now) layer pad.now) }
 {
     if is_thermal(zone, layer, pad) {
@@ -74,7 +75,7 @@ fn of_pad(alloc: Global, zone: &Zone, layer: u8, pad: &Pad) -> Result<Vec<Oct>, 
 // The four spokes of a pad.
 #[tactic(auto, unfolding(fill_rules::specs::Reliefs::pad_spokes))]
 fn pad_spokes(alloc: Global, zone: &Zone, pad: &Pad) -> Result<Vec<Oct>, Memory>
-    requires { IsPadReady pad.now }
+    requires { IsPadInReach pad.now }
     ensures { IfOk result (λ v. v.items ≡ pad_spokes (settings_of zone.now) pad.now) }
 {
     let brush = brush_radius(zone);
@@ -89,9 +90,9 @@ fn pad_spokes(alloc: Global, zone: &Zone, pad: &Pad) -> Result<Vec<Oct>, Memory>
 }
 
 // The hulls of the pad; its centre, rounded down, is in each.
-#[tactic(auto, unfolding(fill_rules::specs::Needs::pad_hulls))]
+#[tactic(auto, unfolding(board_language::specs::Copper::pad_hulls))]
 fn hulls_round(alloc: Global, pad: &Pad) -> Result<Vec<Oct>, Memory>
-    requires { IsPadReady pad.now }
+    requires { IsPadInReach pad.now }
     ensures value { IfOk result (λ v. v.items ≡ pad_hulls pad.now) }
     ensures centre { IfOk result (λ v. All (IsSpokeHull (floor_of 2 pad.now.at.x) (floor_of 2 pad.now.at.y)) v.items) }
 {

@@ -1,5 +1,5 @@
 use Rattle.hulls.specs.Cells.{around}
-use Rattle.knockouts.proofs.Near.{frames_near, need_some}
+use Rattle.knockouts.proofs.Near.{frames_near}
 use Rattle.knockouts.proofs.frames.are_frames_near.Goals as goal
 
 pub returns : goal.returns
@@ -8,5 +8,4 @@ returns c =
     let upper = c.args.upper.now in
     rw (← c.zone_need-need.ensures.value)
     (frames_near c.zone_need-need.result (around lower.outline) (around upper.outline) c.frame.result c.frame-2.result c.apart.result
-    (need_some upper.clearance lower.clearance c.args.items.now.rules.floor _ c.requires.floor c.zone_need-need.ensures.value)
-    c.frame.ensures.oct c.frame-2.ensures.oct c.frame.ensures.value c.frame-2.ensures.value c.apart.ensures)
+    c.zone_need-need.ensures.least c.frame.ensures.oct c.frame-2.ensures.oct c.frame.ensures.value c.frame-2.ensures.value c.apart.ensures)

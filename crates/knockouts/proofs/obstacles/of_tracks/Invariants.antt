@@ -1,10 +1,9 @@
 use Rattle.std.proofs.Common.{◌≡◌, ◌++◌, drop, flat_map, map}
 use Rattle.fill_rules.specs.Tasks.{settings_of}
 use Rattle.fill_rules.specs.Needs.{track_needs}
-use Rattle.knockouts.specs.Items.{lent_board}
 use Rattle.knockouts.specs.Obstacles.{need_of}
 use Rattle.knockouts.proofs.obstacles.of_tracks.Given as goal
 
 abbrev pub invariant-each : goal.invariant-each
 invariant-each l =
-    map need_of l.needs.items ++ flat_map (track_needs (lent_board l.items) (settings_of l.zone) l.layer) (drop l.track-index l.tracks) ≡ flat_map (track_needs (lent_board l.items) (settings_of l.zone) l.layer) l.tracks
+    map need_of l.needs.items ++ flat_map (track_needs l.board.board (settings_of l.zone) l.layer) (drop l.track-index l.tracks) ≡ flat_map (track_needs l.board.board (settings_of l.zone) l.layer) l.tracks

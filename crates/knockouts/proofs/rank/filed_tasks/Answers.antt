@@ -5,5 +5,5 @@ use Rattle.knockouts.proofs.rank.filed_tasks.Goals as goal
 
 pub each-preserved : goal.each-preserved
 each-preserved c =
-    zone_more c.args.items.now.layers c.each.i c.args.items.now.zones.now (map task_of c.each.tasks.items) _ _ c.index-zones-i.result c.each-test.true
+    zone_more c.args.count c.each.i c.args.zones.now (map task_of c.each.tasks.items) _ _ c.index-zones-i.result c.each-test.true
     c.index-zones-i.is c.in_ok-tasks.ensures c.each.invariant

@@ -1,12 +1,15 @@
-use Rattle.std.proofs.Common.{◌∙◌, ap, map}
-use Rattle.fill_rules.specs.Tasks.{put_all}
-use Rattle.knockouts.specs.Items.{lent_board}
-use Rattle.fills.specs.Fills.{task_of}
-use Rattle.knockouts.proofs.InRange.{each_in_range, ranked_from}
+use Rattle.std.proofs.Common.{◌≡◌, refl, rules}
+use Rattle.std.proofs.lemmas.Fn.{always_returns_same}
+use Rattle.knockouts.proofs.Sorting.{sorted_is}
+use Rattle.knockouts.proofs.Placing.{priority, ranked_from}
+use Rattle.knockouts.proofs.Reading.{each_task}
 use Rattle.knockouts.proofs.rank.tasks.Goals as goal
 
+pub returns-clause-order : goal.returns-clause-order
+returns-clause-order c =
+    let b = c.args.board.now.board in
+    let key = always_returns_same _ (λ a r. r ≡ record { 0 = priority b a.0.now }) _ (λ a r q k. search rules) in
+    ranked_from b _ c.layers.result.now c.zones.result.now _ _ c.layers.ensures c.zones.ensures refl c.in_ok-ranked.ensures (sorted_is (priority b) _ _ (c.in_ok-sort_by_key.ensures.sorted _ key) (c.sort_by_key.ensures.stable _ key))
+
 pub returns-clause-each : goal.returns-clause-each
-returns-clause-each c =
-    let i = c.args.items.now in
-    each_in_range i c.in_ok-ranked.ranked.items c.requires.layers
-    (c.in_ok-ranked.ensures ∙ ap (λ ts. put_all (lent_board i) (map task_of ts)) c.deref.ensures.value ∙ ranked_from i _ c.in_ok-filed.ensures)
+returns-clause-each c = each_task c.args.board.now.board c.sort_by_key.new.self.items (returns-clause-order c)

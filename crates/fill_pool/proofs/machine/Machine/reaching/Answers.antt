@@ -1,5 +1,5 @@
 use Rattle.std.proofs.Common.{sym, subst}
-use Rattle.fill_pool.specs.Runs.{AreReaching}
+use Rattle.fills.specs.Above.{AreReaching}
 use Rattle.fill_pool.proofs.Machines.{row_is}
 use Rattle.fill_pool.proofs.machine.Machine.reaching.Goals as goal
 

@@ -1,7 +1,8 @@
 use Rattle.std.proofs.Common.{sym, ◌≡◌, subst, ℕ, List, map}
 use Rattle.std.specs.Arc.{arc_value}
 use Rattle.pool_rules.specs.declared.PoolEvent.{PoolEvent}
-use Rattle.fill_pool.specs.Runs.{IsHeld, AreFillsAbove}
+use Rattle.fill_pool.specs.Runs.{IsHeld}
+use Rattle.fills.specs.Above.{AreFillsAbove}
 use Rattle.fill_pool.specs.Slots.{filled, made_at}
 use Rattle.fill_pool.proofs.Pools.{above_full, above_fills, copied_as}
 use Rattle.fill_pool.proofs.pool.Pool.above.Goals as goal
