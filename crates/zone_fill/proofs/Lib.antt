@@ -1,0 +1,11 @@
+mod Cutting
+mod Choosing
+mod Composing
+mod Entering
+mod Reaching
+mod Room
+mod Seen
+mod Rooms
+mod Walling
+mod Aboves
+mod Grounds

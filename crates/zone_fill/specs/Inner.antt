@@ -1,0 +1,5 @@
+pub mod Steps
+pub mod Live
+pub mod Ground
+pub mod First
+pub mod Reached
