@@ -1,0 +1,94 @@
+-- The rings of pieces cover exactly these, and lie within half a metre.
+use Rattle.std.proofs.Common.{◌≡◌, refl, sym, ap, subst, ℕ, ◌*◌, inl, inr, arith, mul_comm, List, [], ◌∷◌, map, ◌∙◌}
+use Rattle.std.specs.Prelude.{◌↔◌, ℤ, pos, ◌*ℤ◌, Any, Result, Ok, Err, IfOk}
+use Rattle.std.specs.List.{All}
+use Rattle.std.proofs.lemmas.Int.{ints}
+use Rattle.plane.specs.Plane.{PlanePoint, Bounds, Within, In, times}
+use Rattle.plane.specs.Covering.{Covers, edges_of_all, IsOn}
+use Rattle.plane.proofs.Lists.{any_none, any_cases, any_head, any_tail, covers_on}
+use Rattle.plane.proofs.Points.{mul_mul}
+use Rattle.octagon.specs.Room.{IsAround}
+use Rattle.grid_num.specs.Length.{IsInRange}
+use Rattle.grid_num.specs.declared.Point.{Point}
+use Rattle.hulls.specs.Laws.{nm_in_units}
+use Rattle.classes.specs.Classes.{IsOneOf}
+use Rattle.strips.specs.declared.Strip.{Strip}
+use Rattle.strips.specs.Strips.{AreCovering, in_nanometres}
+use Rattle.rings.specs.Rings.{Traced, IsRingInRange}
+use Rattle.rings.specs.Sheets.{AreRings}
+use Rattle.rings.proofs.Lists.{Has, all_of}
+use Rattle.sheet_union.specs.Near.{IsSheet}
+use Rattle.sheet_trace.specs.Laws.{SheetUnionCoverLaw}
+use Rattle.fill_rules.specs.Lists.{InOne}
+use Rattle.board_language.proofs.Members.{all_one_of}
+use Rattle.outlines.specs.Drawn.{IsCovering}
+use Rattle.outlines.proofs.Corners.{place, rings_on}
+
+-- ---- nanometres and units
+turned : (k : ℕ) (x : ℤ) → pos k *ℤ (pos 2 *ℤ x) ≡ pos (2 * k) *ℤ x
+turned k x = mul_mul k 2 x ∙ ap (λ (n : ℕ). pos n *ℤ x) (mul_comm k 2)
+
+to_units : (o : Bounds) (p : PlanePoint) → In (times 2 o) p ↔ In o (nm_in_units p)
+to_units o p =
+    let k = p.scale in (
+      λ w. record {
+        x_low = omega (arith, ints, w.x_low, turned k o.x0);
+        x_high = omega (arith, ints, w.x_high, turned k o.x1);
+        y_low = omega (arith, ints, w.y_low, turned k o.y0);
+        y_high = omega (arith, ints, w.y_high, turned k o.y1);
+        s_low = omega (arith, ints, w.s_low, turned k o.s0);
+        s_high = omega (arith, ints, w.s_high, turned k o.s1);
+        d_low = omega (arith, ints, w.d_low, turned k o.d0);
+        d_high = omega (arith, ints, w.d_high, turned k o.d1);
+      },
+      λ w. record {
+        x_low = omega (arith, ints, w.x_low, turned k o.x0);
+        x_high = omega (arith, ints, w.x_high, turned k o.x1);
+        y_low = omega (arith, ints, w.y_low, turned k o.y0);
+        y_high = omega (arith, ints, w.y_high, turned k o.y1);
+        s_low = omega (arith, ints, w.s_low, turned k o.s0);
+        s_high = omega (arith, ints, w.s_high, turned k o.s1);
+        d_low = omega (arith, ints, w.d_low, turned k o.d0);
+        d_high = omega (arith, ints, w.d_high, turned k o.d1);
+      },
+    )
+
+one_to_units : (pieces : List Bounds) (p : PlanePoint) → Any (λ b. In b p) (in_nanometres pieces) → InOne pieces (nm_in_units p)
+unfolding IsOneOf
+one_to_units [] p a = absurd (any_none (λ b. In b p) a)
+one_to_units (o ∷ pieces) p a = elim (any_cases (λ b. In b p) (times 2 o) (in_nanometres pieces) a) [
+  | inl h ↦ (o, inl refl, (to_units o p).0 h)
+  | inr h ↦ let r = one_to_units pieces p h in (r.0, inr r.1, r.2)
+]
+
+one_from_units : (pieces : List Bounds) (p : PlanePoint) → InOne pieces (nm_in_units p) → Any (λ b. In b p) (in_nanometres pieces)
+unfolding IsOneOf
+one_from_units [] p (o, i, h) = absurd i
+one_from_units (x ∷ pieces) p (o, inl e, h) =
+    any_head (λ b. In b p) (times 2 x) (in_nanometres pieces) ((to_units x p).1 (subst (λ (u : Bounds). In u (nm_in_units p)) e h))
+one_from_units (x ∷ pieces) p (o, inr i, h) = any_tail (λ b. In b p) (times 2 x) (in_nanometres pieces) (one_from_units pieces p (o, i, h))
+
+pub if_ok : {A E : Type 0} (P Q : A → Type 0) (r : Result A E) → ((x : A) → P x → Q x) → IfOk r P → IfOk r Q
+if_ok P Q (Ok x) f h = f x h
+if_ok P Q (Err e) f h = tt
+
+-- ---- the cover
+pub covering : SheetUnionCoverLaw → (pieces : List Bounds) (ss : List Strip) (t : Traced) → IsSheet ss → AreCovering (in_nanometres pieces) ss → AreRings ss t.rings → IsCovering pieces t
+covering law pieces ss t s c r p =
+    let u = law (in_nanometres pieces) ss t.rings p s c r in
+    (λ h. one_to_units pieces p (u.0 h), λ h. u.1 (one_from_units pieces p h))
+
+-- ---- the range
+in_range : (o : Bounds) (c : Point) → IsAround 250000000 o → In o (nm_in_units (place c)) → IsInRange c.x × IsInRange c.y
+in_range o c a w = (
+  (omega (arith, ints, a.x_low, w.x_low), omega (arith, ints, a.x_high, w.x_high)),
+  (omega (arith, ints, a.y_low, w.y_low), omega (arith, ints, a.y_high, w.y_high)),
+)
+
+pub ranging : (pieces : List Bounds) (t : Traced) → IsCovering pieces t → All (λ (o : Bounds). IsAround 250000000 o) pieces → All IsRingInRange t.rings
+ranging pieces t c near = all_of IsRingInRange t.rings (λ cs h. all_of (λ corner. IsInRange corner.x × IsInRange corner.y) cs (λ corner i. at cs corner h i))
+  where
+    at : (cs : List Point) (corner : Point) → Has t.rings cs → Has cs corner → IsInRange corner.x × IsInRange corner.y
+    at cs corner h i =
+        let w = (c (place corner)).0 (covers_on (edges_of_all t.rings) (place corner) (rings_on t.rings cs corner h i)) in
+        in_range w.0 corner (all_one_of (λ (o : Bounds). IsAround 250000000 o) pieces w.0 near w.1) w.2

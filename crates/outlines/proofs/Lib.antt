@@ -1,0 +1,4 @@
+pub mod Corners
+pub mod Cover
+pub mod Each
+pub mod Drawable
