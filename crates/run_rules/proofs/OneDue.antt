@@ -34,12 +34,14 @@ use Rattle.output_rules.proofs.Reports.{one_report}
 use Rattle.run_rules.specs.declared.words.Command.{Command}
 use Rattle.run_rules.specs.declared.words.Command.TheVariants as commands
 use Rattle.run_rules.specs.declared.ended.Ended.{Ended}
-use Rattle.run_rules.specs.declared.ended.Ended.TheVariants.{Done, Usage, TooLong, BadText, Refused, BadScript, EditRefused, Unreadable, Unwritten, Unsaid, Memory, Unbuilt}
+use Rattle.run_rules.specs.declared.ended.Ended.TheVariants.{Done, Usage, TooLong, BadText, Refused, BadScript, EditRefused, Unreadable, Unwritten, Unsaid, Memory}
 use Rattle.run_rules.specs.declared.ended.Role.{Role}
 use Rattle.run_rules.specs.declared.ended.Role.TheVariants.{In, Edits}
 use Rattle.run_rules.specs.Words.{Wanted, default_rules}
 use Rattle.run_rules.specs.Words.Wanted.{Wrong, Run}
-use Rattle.run_rules.specs.Filled.{AreBoardFills, AreTracedOf, Filled, IsFilled, written, reported}
+use Rattle.fills.specs.Fills.{AreBoardFills}
+use Rattle.output_rules.specs.Traced.{AreTracedOf}
+use Rattle.run_rules.specs.Filled.{Filled, IsFilled, written, reported}
 use Rattle.run_rules.specs.Due.{File, Due, Duties, all_duties, IsDue, OwesFile, OwesRoot, OwesBoard, OwesFill, OwesReport, OwesScript, OwesEdits, OwesGenerated, OwesCommand, OwesWords, IsRefilled, TellsChanged, pass_with, summary_of}
 use Rattle.run_rules.specs.Due.Due.{Refuse, Pass}
 use Rattle.run_rules.specs.Leaves.{IsCaused, IsDeskFault, IsQuiet, IsAnswerTo}
@@ -207,7 +209,6 @@ answers d one (BadText fault) words s t due l f h = one words s due (Refuse (Bad
 answers d one (Refused offence) words s t due l f h = one words s due (Refuse (Refused offence)) h l.0
 answers d one (BadScript fault) words s t due l f h = one words s due (Refuse (BadScript fault)) h l.0
 answers d one (EditRefused index refusal) words s t due l f h = one words s due (Refuse (EditRefused index refusal)) h l.0
-answers d one Unbuilt words s t due l f h = one words s due (Refuse Unbuilt) h l.0
 answers d one (Unreadable role) words s t due l f h = absurd (f tt)
 answers d one (Unwritten given) words s t due l f h = absurd (f tt)
 answers d one (Unsaid given) words s t due l f h = absurd (f tt)
@@ -232,7 +233,6 @@ quiet_no_fault (BadText fault) before now c q f = f
 quiet_no_fault (Refused offence) before now c q f = f
 quiet_no_fault (BadScript fault) before now c q f = f
 quiet_no_fault (EditRefused index refusal) before now c q f = f
-quiet_no_fault Unbuilt before now c q f = f
 quiet_no_fault Memory before now c q f = f
 
 pub answers_due : AnswersDueLaw

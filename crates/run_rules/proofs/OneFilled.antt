@@ -5,16 +5,15 @@ use Rattle.std.specs.Prelude.{pos, ℤ}
 use Rattle.board_language.specs.Board.{Board}
 use Rattle.fills.proofs.Same.{one_fill}
 use Rattle.fill_rules.specs.Made.{no_fill}
-use Rattle.fill_rules.proofs.Members.{same_lists}
+use Rattle.board_language.proofs.Members.{same_lists}
 use Rattle.plane.specs.Plane.{Bounds}
 use Rattle.strips.specs.Strips.{in_nanometres}
 use Rattle.strips.specs.Area.{area2_of}
 use Rattle.strips.proofs.Once.{once_law}
 use Rattle.rings.specs.Sheets.{AreRings}
 use Rattle.rings.proofs.Laws.{one_rings_law}
-use Rattle.rings.specs.Rings.{Traced}
-use Rattle.output_rules.specs.Output.{not_traced}
-use Rattle.run_rules.specs.Filled.{AreOutlines}
+use Rattle.rings.specs.Rings.{Traced, not_traced}
+use Rattle.rings.specs.Outlines.{AreOutlines}
 use Rattle.run_rules.specs.Laws.{OneFillsLaw, OneOutlinesLaw}
 
 pub one_fills : OneFillsLaw

@@ -11,7 +11,7 @@ use Rattle.edit_language.specs.declared.edit.EditKind.TheVariants as edits
 use Rattle.edit_language.specs.declared.edit.EditRefusal.{EditRefusal}
 use Rattle.edit_language.specs.declared.edit.EditRefusal.TheVariants.{NoStamp, WrongKind, StampTaken, Breaks}
 use Rattle.run_rules.specs.declared.ended.Ended.{Ended}
-use Rattle.run_rules.specs.declared.ended.Ended.TheVariants.{Done, Usage, TooLong, BadText, Refused, BadScript, EditRefused, Unreadable, Unwritten, Unsaid, Memory, Unbuilt}
+use Rattle.run_rules.specs.declared.ended.Ended.TheVariants.{Done, Usage, TooLong, BadText, Refused, BadScript, EditRefused, Unreadable, Unwritten, Unsaid, Memory}
 use Rattle.run_rules.specs.declared.ended.Role.{Role}
 use Rattle.run_rules.specs.declared.ended.Role.TheVariants.{In, Edits}
 
@@ -94,4 +94,3 @@ complaint_of (Unreadable role) = codes "zonefill: " ++ (role_name role ++ codes 
 complaint_of (Unwritten given) = codes "zonefill: OUT was cut after " ++ (decimal given ++ codes " bytes\n")
 complaint_of (Unsaid given) = codes "zonefill: report was cut after " ++ (decimal given ++ codes " bytes\n")
 complaint_of Memory = codes "zonefill: out of memory\n"
-complaint_of Unbuilt = codes "zonefill: not built yet\n"

@@ -10,7 +10,8 @@ use Rattle.run_rules.specs.declared.words.Command.{Command}
 use Rattle.run_rules.specs.declared.words.UsageFault.{UsageFault}
 use Rattle.run_rules.specs.declared.ended.Ended.{Ended}
 use Rattle.run_rules.specs.Words.{GivenWord, IsCommand, HasUsageFault}
-use Rattle.run_rules.specs.Filled.{AreBoardFills, AreTracedOf}
+use Rattle.fills.specs.Fills.{AreBoardFills}
+use Rattle.output_rules.specs.Traced.{AreTracedOf}
 use Rattle.run_rules.specs.Due.{Due, Duties, all_duties, IsDue}
 use Rattle.run_rules.specs.Leaves.{IsCaused, Leaves, IsDeskFault, IsQuiet, IsAnswerTo}
 

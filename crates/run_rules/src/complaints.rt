@@ -229,6 +229,5 @@ pub fn complaint(ended: &Ended) -> Line
             b" bytes\n",
         ),
         Ended::Memory => line_of(b"zonefill: out of memory\n", b"", b""),
-        Ended::Unbuilt => line_of(b"zonefill: not built yet\n", b"", b""),
     }
 }

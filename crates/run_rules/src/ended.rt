@@ -41,8 +41,6 @@ pub enum Ended {
     Unsaid { given: u64 },
     /// Want of memory.
     Memory,
-    /// For now: the board is accepted, and it is none of those that are filled yet. It goes when every board is filled.
-    Unbuilt,
 }
 
 /// The exit status of the program.
@@ -55,8 +53,7 @@ pub fn status(ended: &Ended) -> u8
         | Ended::BadText(_)
         | Ended::Refused(_)
         | Ended::BadScript(_)
-        | Ended::EditRefused { .. }
-        | Ended::Unbuilt => 1,
+        | Ended::EditRefused { .. } => 1,
         Ended::Usage(_) => 2,
         Ended::Unreadable { .. } | Ended::Unwritten { .. } | Ended::Unsaid { .. } => 3,
         Ended::Memory => 4,

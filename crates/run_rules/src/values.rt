@@ -1,10 +1,11 @@
 // The values of options: numbers of workers, and clearances.
-ghost use Rattle.std.specs.Prelude.{◌≡◌, ◌<◌, ◌≤◌, ◌∷◌, [], true, false, length, map, min, IfOk, IsTrue, All, MatchOption, MatchResult, ◌↔◌};
+ghost use Rattle.std.specs.Prelude.{◌≡◌, ◌<◌, ◌≤◌, ◌∷◌, [], true, false, length, map, min, IfOk, IfSome, IsTrue, All, MatchOption, MatchResult, ◌↔◌};
 ghost use Rattle.std.specs.List.{list_all};
 ghost use Rattle.std.specs.Char.{is_ascii_digit, IsAsciiDigit};
 ghost use Rattle.grid_num.specs.Spelling.{number};
 ghost use Rattle.run_rules.specs.Words as words;
 ghost use Rattle.board_text.specs.Items.{size_of};
+ghost use Rattle.board_language.specs.Clearances.{IsClearance};
 ghost use Rattle.board_text.specs.Numbers.{length_of};
 ghost use Rattle.run_rules.specs.Read.{setting_shown, AreValues, IsValueFault};
 
@@ -113,7 +114,8 @@ pub fn number_in(word: &[u8], digits: usize, least: u64, most: u64) -> Option<u6
 
 /// The clearance that a word spells, where it is one from 2 nm to 100 mm.
 fn clearance_in(word: &[u8]) -> Option<u32>
-    ensures { MatchOption result
+    ensures sound { IfSome result IsClearance }
+    ensures word { MatchOption result
         (words.is_clearance word.now ≡ false)
         (λ n. (words.is_clearance word.now ≡ true) × (n ≡ size_of (length_of word.now))) }
 {

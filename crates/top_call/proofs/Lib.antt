@@ -1,5 +1,5 @@
-pub mod OneTask
 pub mod Filling
 pub mod Owes
+pub mod Counting
 pub mod OneDue
 pub mod EndsOf

@@ -1,5 +1,5 @@
 -- What the parts of a run find is what is due.
-use Rattle.std.proofs.Common.{◌≡◌, inl, inr, ℕ, ◌+◌, ◌<◌, ◌≤◌, arith, refl, sym, ◌∙◌, ap, subst, true, false, List, [], map, length, take, Option, None, Some}
+use Rattle.std.proofs.Common.{◌≡◌, inl, inr, ℕ, ◌+◌, ◌<◌, ◌≤◌, arith, refl, sym, ◌∙◌, ap, subst, true, false, List, [], length, take, Option, None, Some}
 use Rattle.std.specs.Option.{IsSome}
 use Rattle.std.proofs.lemmas.List.{append-nil}
 use Rattle.desk.specs.Seen.{Seen, content, with_file, with_said}
@@ -18,19 +18,19 @@ use Rattle.run_rules.specs.declared.words.WordsError.{WordsError}
 use Rattle.run_rules.specs.declared.words.WordsError.TheVariants as words_errors
 use Rattle.run_rules.specs.declared.words.UsageFault.{UsageFault}
 use Rattle.run_rules.specs.declared.words.UsageFault.TheVariants.{Words}
-use Rattle.run_rules.specs.declared.ended.Ended.TheVariants.{Usage, TooLong, BadText, Refused, Unbuilt}
+use Rattle.run_rules.specs.declared.ended.Ended.TheVariants.{Usage, TooLong, BadText, Refused}
 use Rattle.run_rules.specs.declared.ended.Role.TheVariants.{In}
 use Rattle.run_rules.specs.Words.{GivenWord, wanted}
 use Rattle.run_rules.specs.Read.{IsErrorOf}
 use Rattle.run_rules.specs.Words.Wanted.{Wrong, Run}
-use Rattle.run_rules.specs.Due.{File, Due, IsDue, OwesWords, OwesFile, OwesBoard}
-use Rattle.run_rules.specs.Due.Due.{Refuse, Pass}
+use Rattle.run_rules.specs.Due.{Due, IsDue, OwesWords, OwesFile, OwesBoard}
+use Rattle.run_rules.specs.Due.Due.{Refuse}
 use Rattle.run_rules.specs.Leaves.{Leaves, LeavesDone, HasRoomFor, IsCutShort}
 use Rattle.top_call.specs.declared.words.Filling.{Filling}
 use Rattle.top_call.specs.declared.filled.Refusal.{Refusal}
 use Rattle.top_call.specs.declared.filled.Refusal.TheVariants as refusal
-use Rattle.top_call.specs.Output.{IsFilledText, outlined}
-use Rattle.top_call.specs.Today.{is_plain_fill, asked_today, OwesToday, OwesBuilt, today, pass_file}
+use Rattle.top_call.specs.Output.{IsFilledText}
+use Rattle.top_call.specs.Today.{is_plain_fill, asked_today, OwesToday, OwesFilled, today, pass_file}
 use Rattle.top_call.specs.Refusals.{IsFilling, IsWordsError, IsOwed, answer_of, answer_of_stop, answer_of_words}
 
 -- the words' fault
@@ -64,14 +64,14 @@ leaves_unasked words s words_errors.Memory h = refl
 leaves_unasked words s (words_errors.Bad fault) h = (h s, refl)
 
 -- what the file of the input owes
-owes_file : (words : List GivenWord) (f : Filling) (s : Seen) (due : Due) → IsFilling f words → OwesFile In (OwesBoard (OwesBuilt f.rules f.output)) (content f.input s) due → IsDue today words s due
+owes_file : (words : List GivenWord) (f : Filling) (s : Seen) (due : Due) → IsFilling f words → OwesFile In (OwesBoard (OwesFilled f.rules f.output)) (content f.input s) due → IsDue today words s due
 owes_file words f s due e h = owes_command words s (Fill f.input f.output e.0 f.rules) due e.1 h
 
 -- what a text of a file that isn't too long owes
 owes_text : (words : List GivenWord) (f : Filling) (text : List ℕ) (s : Seen) (due : Due) → IsFilling f words → text ≡ content f.input s → length text ≤ 67108864
-    → OwesBoard (OwesBuilt f.rules f.output) text due → IsDue today words s due
+    → OwesBoard (OwesFilled f.rules f.output) text due → IsDue today words s due
 owes_text words f text s due e same short h =
-    owes_file words f s due e (subst (λ t. OwesFile In (OwesBoard (OwesBuilt f.rules f.output)) t due) same (inr (short, h)))
+    owes_file words f s due e (subst (λ t. OwesFile In (OwesBoard (OwesFilled f.rules f.output)) t due) same (inr (short, h)))
 
 -- a text that was read to its end or not: what is left
 pub leaves_unread : (words : List GivenWord) (f : Filling) (s : Seen) (why : ReadStop) → IsFilling f words
@@ -82,22 +82,19 @@ leaves_unread words f s stops.TooLong e long = (owes_file words f s (Refuse (Too
 
 -- a text that is refused
 pub leaves_refused : (words : List GivenWord) (f : Filling) (text : List ℕ) (s : Seen) (why : Refusal) → IsFilling f words → text ≡ content f.input s → length text ≤ 67108864
-    → IsOwed f.rules text why → Leaves today (answer_of why) words s s
+    → IsOwed text why → Leaves today (answer_of why) words s s
 leaves_refused words f text s refusal.Memory e same short owed = refl
 leaves_refused words f text s (refusal.BadText fault) e same short owed =
     (owes_text words f text s (Refuse (BadText fault)) e same short (inl (fault, owed, refl)), refl)
 leaves_refused words f text s (refusal.Refused offence) e same short owed =
     (owes_text words f text s (Refuse (Refused offence)) e same short (inr (owed.0, owed.1, inl (offence, owed.2, refl))), refl)
-leaves_refused words f text s refusal.Unbuilt e same short owed =
-    let b : IsBoardOf text f.rules owed.0 = owed.1 in
-    (owes_text words f text s (Refuse Unbuilt) e same short (inr (b.root, b.is_root, inr (b.accepted, (owed.0, b, inr (owed.2, refl))))), refl)
 
 -- a text that is filled
 owes_filled : (words : List GivenWord) (f : Filling) (text bytes : List ℕ) (s : Seen) → IsFilling f words → text ≡ content f.input s → length text ≤ 67108864
     → (b : Board) × IsBoardOf text f.rules b × IsFilledText text b bytes → IsDue today words s (pass_file f.output bytes)
 owes_filled words f text bytes s e same short w =
     let b : IsBoardOf text f.rules w.0 = w.1 in
-    owes_text words f text s (pass_file f.output bytes) e same short (inr (b.root, b.is_root, inr (b.accepted, (w.0, b, inl (bytes, w.2, refl)))))
+    owes_text words f text s (pass_file f.output bytes) e same short (inr (b.root, b.is_root, inr (b.accepted, (w.0, b, (bytes, w.2, refl)))))
 
 -- the bytes that are written are due
 due_bytes : (words : List GivenWord) (f : Filling) (read text written bytes : List ℕ) (s : Seen) → IsFilling f words → text ≡ read → read ≡ content f.input s → length read ≤ 67108864
@@ -126,7 +123,7 @@ leaves_done words name bytes s due = (Some (record { name = name; bytes = bytes 
 pub some_written : (text bytes : List ℕ) (rules : Rules) (b : Board) → IsBoardOf text rules b → IsFilledText text b bytes → 0 < length bytes
 some_written text bytes rules b is f =
     subst (λ bs. 0 < length bs) (sym f.written)
-    (subst (λ c. 0 < length (Rattle.output_rules.specs.Output.text_with_rings text c (map outlined f.rings))) (sym is.board_is) (some_bytes text is.root rules (map outlined f.rings) is.is_root))
+    (subst (λ c. 0 < length (Rattle.output_rules.specs.Output.text_with_rings text c f.traced)) (sym is.board_is) (some_bytes text is.root rules f.traced is.is_root))
 
 -- a file that was cut
 pub cut_short : (name bytes : List ℕ) (given : ℕ) (s : Seen) (new : Option Seen) → 0 < length bytes → IsCut name bytes given s new

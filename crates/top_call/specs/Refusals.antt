@@ -8,13 +8,9 @@ use Rattle.sexpr_text.specs.Trees.{IsRoot}
 use Rattle.sexpr_text.specs.Faults.{IsFault}
 use Rattle.sexpr_text.specs.declared.error.TextError.{TextError}
 use Rattle.sexpr_text.specs.declared.error.TextError.TheVariants as text_errors
-use Rattle.board_language.specs.declared.board.Rules.{Rules}
-use Rattle.board_language.specs.Board.{Board}
 use Rattle.board_language.specs.Reading.{IsOffence}
 use Rattle.board_model.specs.declared.error.BoardError.{BoardError}
 use Rattle.board_model.specs.declared.error.BoardError.TheVariants as board_errors
-use Rattle.edit_language.specs.Edited.{IsBoardOf}
-use Rattle.bare_fill.specs.Bare.{IsBuilt}
 use Rattle.run_rules.specs.declared.words.Command.TheVariants.{Fill}
 use Rattle.run_rules.specs.declared.words.WordsError.{WordsError}
 use Rattle.run_rules.specs.declared.words.WordsError.TheVariants as words_errors
@@ -26,7 +22,7 @@ use Rattle.run_rules.specs.Words.Wanted.{Run}
 use Rattle.run_rules.specs.Due.{IsDue}
 use Rattle.run_rules.specs.Due.Due.{Refuse}
 use Rattle.top_call.specs.declared.filled.Refusal.{Refusal}
-use Rattle.top_call.specs.declared.filled.Refusal.TheVariants.{Memory, BadText, Refused, Unbuilt}
+use Rattle.top_call.specs.declared.filled.Refusal.TheVariants.{Memory, BadText, Refused}
 use Rattle.top_call.specs.declared.words.Filling.{Filling}
 use Rattle.top_call.specs.Today.{asked_today, today}
 
@@ -53,13 +49,11 @@ abbrev pub IsOfBoard : BoardError → Refusal → Type 0
 IsOfBoard board_errors.Memory refusal = refusal ≡ Memory
 IsOfBoard (board_errors.Bad offence) refusal = refusal ≡ Refused offence
 
--- a text is refused by its fault, by the first offence of its board, or where its accepted board is none of those
--- that are filled today; want of memory aside
-abbrev pub IsOwed : Rules → List ℕ → Refusal → Type 0
-IsOwed rules text Memory = Unit {0}
-IsOwed rules text (BadText fault) = IsFault text fault.at fault.kind
-IsOwed rules text (Refused offence) = (root : Item) × IsRoot text root × IsOffence text root offence.at offence.line offence.kind
-IsOwed rules text Unbuilt = (b : Board) × IsBoardOf text rules b × (IsBuilt b → ⊥)
+-- a text is refused by its fault, or by the first offence of its board; want of memory aside
+abbrev pub IsOwed : List ℕ → Refusal → Type 0
+IsOwed text Memory = Unit {0}
+IsOwed text (BadText fault) = IsFault text fault.at fault.kind
+IsOwed text (Refused offence) = (root : Item) × IsRoot text root × IsOffence text root offence.at offence.line offence.kind
 
 -- ---- answers
 
@@ -79,4 +73,3 @@ abbrev pub answer_of : Refusal → Ended
 answer_of Memory = ended.Memory
 answer_of (BadText fault) = ended.BadText fault
 answer_of (Refused offence) = ended.Refused offence
-answer_of Unbuilt = ended.Unbuilt

@@ -1,7 +1,7 @@
--- What the program owes today. It has one command, without options; it fills some boards, counts no lines and says nothing.
--- This file stands for all that is missing, and so does the answer `Unbuilt`. Both go when every command is there: then the
--- duties are those of the whole program, `all_duties`.
-use Rattle.std.specs.Prelude.{◌≡◌, ◌⊎◌, ℕ, Bool, false, not, ◌&&◌, ◌||◌, if◌then◌else◌, List, [], ◌∷◌, Some}
+-- What the program owes today. It has one command, without options; it fills every board, counts no lines and says nothing.
+-- This file stands for all that is missing. It goes when every command is there: then the duties are those of the whole
+-- program, `all_duties`.
+use Rattle.std.specs.Prelude.{◌≡◌, ℕ, Bool, false, not, ◌&&◌, ◌||◌, if◌then◌else◌, List, [], ◌∷◌, Some}
 use Rattle.std.specs.Str.{bytes_eq}
 use lib.Chars.{codes}
 use Rattle.desk.specs.declared.Counts.{Counts}
@@ -10,11 +10,10 @@ use Rattle.desk.specs.Faults.{Rose}
 use Rattle.board_language.specs.declared.board.Rules.{Rules}
 use Rattle.board_language.specs.Board.{Board}
 use Rattle.edit_language.specs.Edited.{IsBoardOf}
-use Rattle.bare_fill.specs.Bare.{IsBuilt}
 use Rattle.run_rules.specs.declared.words.Command.{Command}
 use Rattle.run_rules.specs.declared.words.Command.TheVariants as commands
 use Rattle.run_rules.specs.declared.words.UsageFault.TheVariants.{Words}
-use Rattle.run_rules.specs.declared.ended.Ended.TheVariants.{Usage, Unbuilt}
+use Rattle.run_rules.specs.declared.ended.Ended.TheVariants.{Usage}
 use Rattle.run_rules.specs.declared.ended.Role.TheVariants.{In}
 use Rattle.run_rules.specs.Words.{GivenWord, Wanted, is_option, wanted}
 use Rattle.run_rules.specs.Words.Wanted.{Wrong}
@@ -42,19 +41,17 @@ asked_today words = if is_plain_fill words then wanted words else Wrong Words
 abbrev pub pass_file : List ℕ → List ℕ → Due
 pass_file output bytes = Pass (Some (record { name = output; bytes = bytes })) [] 0
 
--- a board owes its text with its fills, or that it is none of those that are filled today
+-- a board owes its text with its fills
 abbrev pub OwesWritten : List ℕ → List ℕ → Board → Due → Type 0
-OwesWritten output text b due =
-    ((bytes : List ℕ) × IsFilledText text b bytes × (due ≡ pass_file output bytes))
-    ⊎ ((IsBuilt b → ⊥) × (due ≡ Refuse Unbuilt))
+OwesWritten output text b due = (bytes : List ℕ) × IsFilledText text b bytes × (due ≡ pass_file output bytes)
 
 -- an accepted text owes what its board does
-abbrev pub OwesBuilt : Rules → List ℕ → List ℕ → Due → Type 0
-OwesBuilt rules output text due = (b : Board) × IsBoardOf text rules b × OwesWritten output text b due
+abbrev pub OwesFilled : Rules → List ℕ → List ℕ → Due → Type 0
+OwesFilled rules output text due = (b : Board) × IsBoardOf text rules b × OwesWritten output text b due
 
 -- commands that are missing are faults of the words
 abbrev pub OwesToday : Command → Seen → Due → Type 0
-OwesToday (commands.Fill input output threads rules) s due = OwesFile In (OwesBoard (OwesBuilt rules output)) (content input s) due
+OwesToday (commands.Fill input output threads rules) s due = OwesFile In (OwesBoard (OwesFilled rules output)) (content input s) due
 OwesToday (commands.Refill input edits output threads rules) s due = due ≡ Refuse (Usage Words)
 OwesToday (commands.Report input rules) s due = due ≡ Refuse (Usage Words)
 OwesToday (commands.Generate seed size output) s due = due ≡ Refuse (Usage Words)

@@ -8,6 +8,7 @@ ghost use Rattle.run_rules.specs.Due.{Due, IsDue};
 ghost use Rattle.run_rules.specs.Leaves.{IsCaused, Leaves, Ends, IsQuiet, IsAnswerTo, HasRoomFor};
 ghost use Rattle.top_call.specs.Refusals.{answer_of, answer_of_stop, answer_of_words};
 ghost use Rattle.top_call.specs.Today.{today, IsQuietToday};
+ghost use Rattle.top_call.specs.Steps.{IsCounted};
 
 use crate::filled::{Refusal, filled};
 use crate::words::filling_of;
@@ -25,7 +26,6 @@ fn refused(refusal: Refusal) -> Ended
         Refusal::Memory => Ended::Memory,
         Refusal::BadText(fault) => Ended::BadText(fault),
         Refusal::Refused(offence) => Ended::Refused(offence),
-        Refusal::Unbuilt => Ended::Unbuilt,
     }
 }
 
@@ -54,11 +54,18 @@ fn unread(stop: ReadStop) -> Ended
 }
 
 /// What a run does before it complains.
-fn work<D: Desk>(alloc: Global, words: &[String], desk: &mut D) -> Ended
+fn work<D: Desk, L: Ledger>(
+    alloc: Global,
+    words: &[String],
+    desk: &mut D,
+    steps: &mut Steps<L>,
+) -> Ended
     requires { HasRoomFor today (map string_bytes words.now) (D.seen desk.old) (D.room desk.old) }
     ensures cause { IsCaused result (D.counts desk.old) (D.counts desk.new) }
     ensures leaves { Told (D.seen desk.old) (λ s. (t : Seen)
         × Leaves today result (map string_bytes words.now) s t × (D.seen desk.new ≡ Some t)) }
+    ensures counts { Told (D.seen desk.old)
+        (λ s. IsCounted result (map string_bytes words.now) s steps.old steps.new) }
     ensures room { HasRoomTold (D.room desk.new) 256 }
     ensures quiet { (D.counts desk.new).complaining ≡ (D.counts desk.old).complaining }
 {
@@ -70,7 +77,7 @@ fn work<D: Desk>(alloc: Global, words: &[String], desk: &mut D) -> Ended
         Ok(text) => text,
         Err(stop) => return unread(stop),
     };
-    let bytes = match filled(alloc, &text, filling.rules) {
+    let bytes = match filled(alloc, &text, filling.rules, steps) {
         Ok(bytes) => bytes,
         Err(refusal) => return refused(refusal),
     };
@@ -80,8 +87,8 @@ fn work<D: Desk>(alloc: Global, words: &[String], desk: &mut D) -> Ended
     }
 }
 
-/// Runs the command that the words give, over a desk. It counts no step yet, and no line that is wanted between clusters:
-/// `Done` has 0 in its place.
+/// Runs the command that the words give, over a desk. Each fill of a task is a step. It counts no line yet that is wanted
+/// between clusters: `Done` has 0 in its place.
 ///
 /// Whatever the words and the contents of the desk, a run that is done has written the filled board, whose rings cover
 /// exactly the points of the defined fill; a text that is refused is refused at its first bad byte; where the output is cut,
@@ -107,9 +114,12 @@ pub fn run_single<D: Desk, L: Ledger>(
     ensures complete { Told (D.seen desk.old) (λ s.
         IsQuietToday (D.counts desk.old) (D.counts desk.new) → (due : Due)
         → IsDue today (map string_bytes words.now) s due → IsAnswerTo result due) }
+
+    // Where it is done, it took a step for each task of the board of IN.
+    ensures counts { Told (D.seen desk.old)
+        (λ s. IsCounted result (map string_bytes words.now) s steps.old steps.new) }
 {
-    let _ = steps;
-    let ended = work(alloc, words, desk);
+    let ended = work(alloc, words, desk, steps);
     complain_all(complaint(&ended).as_slice(), desk);
     ended
 }

@@ -5,6 +5,8 @@ use Rattle.desk.proofs.Rooms.{has_less, room_left}
 use Rattle.run_rules.specs.Leaves.{Leaves}
 use Rattle.top_call.specs.Today.{today}
 use Rattle.top_call.proofs.Owes.{leaves_unasked, leaves_unread, leaves_refused, leaves_done, due_at, room_after, some_written, cut_short}
+use Rattle.top_call.specs.Steps.{IsCounted}
+use Rattle.top_call.proofs.Counting.{counted_done, uncounted_words, uncounted_stop, uncounted_refusal}
 use Rattle.top_call.proofs.run.work.Goals as goal
 
 pub returns-in-Err-clause-leaves : goal.returns-in-Err-clause-leaves
@@ -72,3 +74,20 @@ pub returns-clause-room : goal.returns-clause-room
 returns-clause-room g c = room_left _ _ _ 256 (room_after (map string_bytes c.args.words.now) _ _ _ _ c.text-2.result.now c.deref-2.result.now (λ n e. g.met.D.Desk.room_is_told c.args.desk.now n e) c.requires
     c.in-Ok-read_all.ensures.seen c.in-Ok-read_all.ensures.room (λ s e. due_at (map string_bytes c.args.words.now) c.in-Ok.filling c.text.result.now c.text-2.result.now c.in-Ok-read_all.text.items c.deref.result.now c.deref-2.result.now c.in-Ok-filled.bytes.items s
     c.in-Ok.ensures c.text.ensures c.text-2.ensures c.deref.ensures.value (c.in-Ok-read_all.ensures.bytes s e) c.in-Ok-read_all.ensures.within c.deref-2.ensures.value c.in-Ok-filled.ensures.filled)) c.in-Err-write_all.ensures.spent
+
+pub returns-in-Err-clause-counts : goal.returns-in-Err-clause-counts
+returns-in-Err-clause-counts g c s e =
+    subst (λ a. IsCounted a (map string_bytes c.args.words.now) s c.args.steps.now c.args.steps.now) (sym c.unasked.ensures) (uncounted_words c.in-Err.error _ s _ _)
+
+pub returns-in-Err-read_all-clause-counts : goal.returns-in-Err-read_all-clause-counts
+returns-in-Err-read_all-clause-counts g c s e =
+    subst (λ a. IsCounted a (map string_bytes c.args.words.now) s c.args.steps.now c.args.steps.now) (sym c.unread.ensures) (uncounted_stop c.in-Err-read_all.stop _ s _ _)
+
+pub returns-in-Err-filled-clause-counts : goal.returns-in-Err-filled-clause-counts
+returns-in-Err-filled-clause-counts g c s e =
+    subst (λ a. IsCounted a (map string_bytes c.args.words.now) s c.args.steps.now c.filled.new.steps) (sym c.refused.ensures) (uncounted_refusal c.in-Err-filled.refusal _ s _ _)
+
+pub returns-in-Ok-write_all-clause-counts : goal.returns-in-Ok-write_all-clause-counts
+returns-in-Ok-write_all-clause-counts g c s e =
+    counted_done (map string_bytes c.args.words.now) c.in-Ok.filling c.deref.result.now s _ _ c.in-Ok.ensures
+    (c.deref.ensures.value ∙ c.in-Ok-read_all.ensures.bytes s e ∙ ap (λ n. content n s) c.text.ensures) c.in-Ok-filled.ensures.counts
