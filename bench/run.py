@@ -4,7 +4,7 @@
 Build the program first, by `rt run` in crates/zonefill; then `python3 bench/run.py`.
 
 Three texts of 64 MiB: a board of one zone padded with spaces, which is filled and copied through; a list of empty lists; and a
-list of words and strings. The last two are read and then answered "not built yet". For comparison `cat` copies the same bytes.
+list of words and strings. The last two are read and then refused. For comparison `cat` copies the same bytes.
 """
 import os
 import subprocess

@@ -1,6 +1,6 @@
 // The lines of zones, rule areas and edges.
 use crate::add::{add, add_point, add_set};
-use board_language::{Area, Edge, Zone, ZoneSpans};
+use board_language::{Area, Edge, IslandMode, Zone, ZoneSpans};
 use grid_num::{Memory, Point};
 use sexpr_text::Span;
 use std::alloc::Global;
@@ -47,12 +47,16 @@ fn add_settings(alloc: Global, out: &mut Vec<u8>, zone: &Zone) -> Result<(), Mem
         zone.net, zone.priority, zone.join, zone.clearance, zone.thickness
     )?;
     add(out, text.as_bytes())?;
-    let islands = if zone.keep_islands { "kept" } else { "removed" };
-    let text = format!(in alloc;
-        " gap {} bridge {} islands {islands}",
-        zone.gap, zone.bridge
-    )?;
-    add(out, text.as_bytes())
+    let text = format!(in alloc; " gap {} bridge {}", zone.gap, zone.bridge)?;
+    add(out, text.as_bytes())?;
+    match zone.islands {
+        IslandMode::Remove => add(out, b" islands removed"),
+        IslandMode::Keep => add(out, b" islands kept"),
+        IslandMode::Below(area) => add(
+            out,
+            format!(in alloc; " islands below {area} removed")?.as_bytes(),
+        ),
+    }
 }
 
 /// Adds the line of a zone.

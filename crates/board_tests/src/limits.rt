@@ -1,7 +1,7 @@
 // What no small board reaches: that an item is one too many, which is tried last.
 use board_items::{Known, known_of};
 use board_language::OffenceKind;
-use board_pads::pad_kind;
+use board_pads::{ReadFootprint, pad_kind};
 use board_text::Part;
 use board_tracks::track_kind;
 use board_zones::zone_kind;
@@ -73,7 +73,8 @@ fn a_pad_is_one_too_many(rt: HostRuntime) -> Result<(), Fail> {
     let known = known_of(rt.alloc(), &board)?;
     let footprint = board.list(b"footprint").expect(&rt, "the footprint");
     let pad = footprint.list(b"pad").expect(&rt, "the pad");
-    let kind = pad_kind(rt.alloc(), &known, &footprint, &pad, true)?;
+    let given = ReadFootprint::of(rt.alloc(), &footprint)?;
+    let kind = pad_kind(rt.alloc(), &known, &given, &pad, true)?;
     assert_eq!(rt; kind, Some(OffenceKind::TooMany));
     Ok(())
 }

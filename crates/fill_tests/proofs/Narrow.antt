@@ -13,12 +13,13 @@ use Rattle.board_language.specs.Board.{Board}
 use Rattle.fill_rules.specs.Tasks.{ranked, task_at, task_zone, zone_at, layer_at}
 use Rattle.fill_rules.specs.Reliefs.{brush_radius, spokes_of}
 use Rattle.fill_rules.specs.Reach.{IsReaching}
-use Rattle.fill_rules.specs.Sound.{IsSound}
+use Rattle.fill_rules.proofs.Sound.{IsFillable}
 use Rattle.fill_rules.specs.Fill.{brush_at, IsAllowed, fill_of}
 use Rattle.fill_rules.proofs.Reach.{InFrame, fits_in_frame}
 use Rattle.fills.specs.declared.Task.{Task}
 use Rattle.fills.specs.Fills.{task_of}
-use Rattle.fill_pool.specs.Runs.{count_of, AreReaching, IsTableOf}
+use Rattle.fill_pool.specs.Runs.{count_of, IsTableOf}
+use Rattle.fills.specs.Above.{AreReaching}
 use Rattle.fill_tests.specs.Narrow.{narrow_board, IsBare}
 
 -- ---- room for the brush
@@ -38,7 +39,7 @@ in_brush r c = (
 )
 
 -- where the brush is allowed, the frame of the outline is as wide as the brush
-as_wide : (b : Board) → IsSound b → (i : ℕ) (c : Point) (r : ℕ) → IsAllowed b (fill_of b) i c → r ≡ brush_radius (zone_at b i)
+as_wide : (b : Board) → IsFillable b → (i : ℕ) (c : Point) (r : ℕ) → IsAllowed b (fill_of b) i c → r ≡ brush_radius (zone_at b i)
     → ((around (zone_at b i).outline).x0 ≤ℤ (c.x -ℤ pos r)) × ((c.x +ℤ pos r) ≤ℤ (around (zone_at b i).outline).x1)
 unfolding brush_at
 as_wide b s i c r a e =
@@ -50,9 +51,9 @@ as_wide b s i c r a e =
     let high = (in_ (grid_point (c.x +ℤ pos r) c.y) m.1).x_high in
     (omega (arith, ints, low), omega (arith, ints, high))
 
-sound : IsSound narrow_board
+fillable : IsFillable narrow_board
 unfolding IsOneOf
-sound = record { thick = thick; centred = λ p i. absurd i }
+fillable = record { thick = thick; centred = λ p i. absurd i }
   where
     thick : (z : Zone) → IsOneOf z narrow_board.zones → 1000 ≤ z.thickness
     thick z (inl e) = subst (λ (y : Zone). 1000 ≤ y.thickness) (sym e) (lit≤ tt)
@@ -65,9 +66,9 @@ too_narrow x0 x1 c e l h = omega (arith, ints, e, l, h)
 
 none_allowed : (i : ℕ) → i < 3 → (c : Point) → IsAllowed narrow_board (fill_of narrow_board) i c → ⊥
 unfolding around ranked task_at task_zone zone_at
-none_allowed zero l c a = let w = as_wide narrow_board sound 0 c 62500 a refl in too_narrow _ _ c.x refl w.0 w.1
-none_allowed (suc zero) l c a = let w = as_wide narrow_board sound 1 c 62500 a refl in too_narrow _ _ c.x refl w.0 w.1
-none_allowed (suc (suc zero)) l c a = let w = as_wide narrow_board sound 2 c 62500 a refl in too_narrow _ _ c.x refl w.0 w.1
+none_allowed zero l c a = let w = as_wide narrow_board fillable 0 c 62500 a refl in too_narrow _ _ c.x refl w.0 w.1
+none_allowed (suc zero) l c a = let w = as_wide narrow_board fillable 1 c 62500 a refl in too_narrow _ _ c.x refl w.0 w.1
+none_allowed (suc (suc zero)) l c a = let w = as_wide narrow_board fillable 2 c 62500 a refl in too_narrow _ _ c.x refl w.0 w.1
 none_allowed (suc (suc (suc i))) l c a = absurd (omega (arith, l))
 
 three : count_of narrow_board ≡ 3

@@ -141,7 +141,17 @@ fn tracks_and_vias_come_and_go(rt: HostRuntime) -> Result<(), Fail> {
         x: 9_000_000,
         y: 5_000_000,
     };
-    let track = put_track(rt.alloc(), board, from, to, 250_000, b"F.Cu", 3, b"t9")?;
+    let track = put_track(
+        rt.alloc(),
+        board,
+        20221018,
+        from,
+        to,
+        250_000,
+        b"F.Cu",
+        3,
+        b"t9",
+    )?;
     let text = edited(rt.alloc(), BOARD, &track)?;
     assert_eq!(rt; text.as_slice(), WITH_TRACK);
     let line = b"(segment (start 8 5) (end 9 5) (width 0.25) (layer \"F.Cu\") (net 3) (tstamp t9))";
@@ -155,6 +165,7 @@ fn tracks_and_vias_come_and_go(rt: HostRuntime) -> Result<(), Fail> {
     let via = put_via(
         rt.alloc(),
         board,
+        20221018,
         at,
         600_000,
         300_000,

@@ -15,7 +15,7 @@ fn near(z: i64) -> i64
     z.max(-1_200_000_000).min(1_200_000_000)
 }
 
-fn place(x: i64, y: i64) -> Point
+pub fn place(x: i64, y: i64) -> Point
     ensures { IsInRoom 1200000000 result }
 {
     Point {

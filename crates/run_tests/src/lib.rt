@@ -5,16 +5,16 @@
 #[cfg(test)]
 mod boards;
 #[cfg(test)]
+mod copper;
+#[cfg(test)]
 mod desks;
+#[cfg(test)]
+mod edited;
 #[cfg(test)]
 mod faults;
 #[cfg(test)]
 mod filled;
 #[cfg(test)]
-mod rectangles;
-#[cfg(test)]
 mod refused;
-#[cfg(test)]
-mod unbuilt;
 #[cfg(test)]
 mod words;

@@ -1,0 +1,70 @@
+// The lines of a filled board.
+use crate::filling::FilledBoard;
+use fills::Task;
+use grid_num::{MmText, Nm, Point, write_mm};
+use outlines::Traced;
+use std::alloc::{AllocError, Global};
+
+/// Adds a length in millimetres.
+fn add_mm(text: &mut String, nm: i64) -> Result<(), AllocError> {
+    let Some(length) = Nm::new(nm) else {
+        return text.push_str("too far");
+    };
+    let mut digits = MmText::new();
+    write_mm(length, &mut digits);
+    text.push_str(str::from_utf8(digits.bytes()).unwrap_or("?"))
+}
+
+/// Adds a ring: its corners, x first.
+fn add_ring(text: &mut String, corners: &[Point]) -> Result<(), AllocError> {
+    text.push_str("   ")?;
+    for corner in corners {
+        text.push_str(" (")?;
+        add_mm(text, corner.x)?;
+        text.push_str(" ")?;
+        add_mm(text, corner.y)?;
+        text.push_str(")")?;
+    }
+    text.push_str("\n")
+}
+
+/// Adds the head of a zone's fill on a layer: the zone's number, from 1, its line and the layer's name, how many rings there are,
+/// and twice their area.
+fn add_head(
+    alloc: Global,
+    text: &mut String,
+    filled: &FilledBoard,
+    task: Task,
+    traced: &Traced,
+) -> Result<(), AllocError> {
+    let number = u64::from(task.zone) + 1;
+    let Some(zone) = filled.board.zones().get(task.zone as usize) else {
+        return text.push_str("  no zone\n");
+    };
+    let Some(layer) = filled.board.layers().get(usize::from(task.layer)) else {
+        return text.push_str("  no layer\n");
+    };
+    let name = str::from_utf8(layer.bytes()).unwrap_or("?");
+    let head = format!(in alloc;
+        "  zone {number} line {} {name} polygons {} area2 {}\n",
+        zone.line,
+        traced.rings.len(),
+        traced.area2
+    )?;
+    text.push_str(head.as_str())
+}
+
+/// What is printed of a filled board: of each task, in rank order, its head and its rings.
+pub fn lines_of(alloc: Global, filled: &FilledBoard) -> Result<String, AllocError> {
+    let mut text = String::new(alloc);
+    for rank in 0..filled.fills.len() {
+        let Some(traced) = filled.traced.get(rank) else {
+            return String::from_str(alloc, "  outlines are missing\n");
+        };
+        add_head(alloc, &mut text, filled, filled.fills[rank].task, traced)?;
+        for ring in &traced.rings {
+            add_ring(&mut text, &ring.corners)?;
+        }
+    }
+    Ok(text)
+}
