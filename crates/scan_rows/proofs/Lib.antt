@@ -4,3 +4,4 @@ pub mod Pieces
 pub mod Grid
 pub mod Steps
 pub mod Closed
+mod Portions

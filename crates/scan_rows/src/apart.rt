@@ -20,8 +20,8 @@ pub(crate) fn without(alloc: Global, octs: &[Oct], oct: &Oct) -> Result<Vec<Oct>
     Ok(rest)
 }
 
-// What is left of the octagons without all the others.
-pub(crate) fn without_all(alloc: Global, octs: &[Oct], others: &[Oct]) -> Result<Vec<Oct>, Memory>
+// What is left of the octagons without all the others, each tried against all.
+pub(crate) fn without_each(alloc: Global, octs: &[Oct], others: &[Oct]) -> Result<Vec<Oct>, Memory>
     requires { AreApart octs.now }
     ensures { IfOk result (λ rest. IsWithoutAll others.now octs.now rest.items) }
 {

@@ -63,7 +63,7 @@ pub(crate) fn add_beside(out: &mut Vec<Oct>, own: &Oct, other: &Oct) -> Result<(
 }
 
 // The octagon's bounds.
-fn eight_of(o: &Oct) -> Eight
+pub(crate) fn eight_of(o: &Oct) -> Eight
     ensures value { bounds result ≡ o.now }
     ensures bounded { IsBounded (bounds result) }
 {
@@ -80,7 +80,7 @@ fn eight_of(o: &Oct) -> Eight
 }
 
 // The bound of the octagon on that side.
-fn limit_of(o: &Oct, side: Side) -> i64
+pub(crate) fn limit_of(o: &Oct, side: Side) -> i64
     ensures value { result ≡ limit_of side o.now }
     ensures near { IsNearZero (2 ^ 42) result }
 {
@@ -97,7 +97,12 @@ fn limit_of(o: &Oct, side: Side) -> i64
 }
 
 // Adds the grid points beyond a side of the other as a piece, and leaves the rest.
-fn cut_off(out: &mut Vec<Oct>, b: &Eight, other: &Oct, side: Side) -> Result<Eight, Memory>
+pub(crate) fn cut_off(
+    out: &mut Vec<Oct>,
+    b: &Eight,
+    other: &Oct,
+    side: Side,
+) -> Result<Eight, Memory>
     requires { IsBounded (bounds b.now) }
     ensures cut { IfOk result (λ rest. IsCutOff side (limit_of side other.now) (bounds b.now) out.old.items out.new.items (bounds rest)) }
     ensures bounded { IfOk result (λ rest. IsBounded (bounds rest)) }
@@ -153,7 +158,7 @@ fn beyond(b: &Eight, side: Side, limit: i64) -> Eight
 }
 
 // What doesn't.
-fn inside(b: &Eight, side: Side, limit: i64) -> Eight
+pub(crate) fn inside(b: &Eight, side: Side, limit: i64) -> Eight
     requires bounded { IsBounded (bounds b.now) }
     ensures points { (x y : ℤ) → Within (bounds result) x y ↔ (Within (bounds b.now) x y × ¬ (IsBeyond side limit x y)) }
     ensures bounded { IsBounded (bounds result) }
@@ -207,7 +212,7 @@ fn greater(a: i64, b: i64) -> i64
 }
 
 // Adds the grid points within the bounds, if there are any.
-fn add(out: &mut Vec<Oct>, b: &Eight) -> Result<(), Memory>
+pub(crate) fn add(out: &mut Vec<Oct>, b: &Eight) -> Result<(), Memory>
     requires { IsBounded (bounds b.now) }
     ensures { IfOk result (λ _. IsAdded (bounds b.now) out.old.items out.new.items) }
 {

@@ -12,9 +12,11 @@ ghost use Rattle.scan_rows.specs.Sets.{IsInSomeSet, LosesOct, LosesAll, GainsSet
 mod apart;
 mod count;
 mod cut;
+mod slabs;
 
-use crate::apart::{joined, without, without_all};
+use crate::apart::{joined, without};
 use crate::count::{count_of, has_point};
+use crate::slabs::without_all;
 use grid_num::{Memory, Point};
 use octagon::Oct;
 pub use scan_runs::Cell;

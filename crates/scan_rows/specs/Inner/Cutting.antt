@@ -1,5 +1,5 @@
 -- Cutting off what lies beyond a side of an octagon.
-use Rattle.std.specs.Prelude.{◌≡◌, ◌⊎◌, ◌↔◌, ◌^◌, List, ℤ, pos, neg_ℤ, ◌+ℤ◌, ◌-ℤ◌, ◌≤ℤ◌, ◌<ℤ◌}
+use Rattle.std.specs.Prelude.{◌⊎◌, ◌↔◌, ◌^◌, List, ℤ, pos, neg_ℤ, ◌+ℤ◌, ◌-ℤ◌, ◌≤ℤ◌, ◌<ℤ◌}
 use Rattle.plane.specs.Plane.{Bounds, Within}
 use Rattle.grid_sets.specs.Points.{HasPoint, AreApart}
 use Rattle.scan_rows.specs.declared.cut.Eight.{Eight}

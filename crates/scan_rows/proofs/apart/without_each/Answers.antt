@@ -1,5 +1,5 @@
 use Rattle.scan_rows.proofs.Steps.{without_all_more}
-use Rattle.scan_rows.proofs.apart.without_all.Goals as goal
+use Rattle.scan_rows.proofs.apart.without_each.Goals as goal
 
 pub others-preserved : goal.others-preserved
 others-preserved c =

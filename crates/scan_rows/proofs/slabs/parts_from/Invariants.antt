@@ -1,0 +1,7 @@
+use Rattle.std.proofs.Common.{take}
+use Rattle.std.specs.Prelude.{◌<ℤ◌}
+use Rattle.scan_rows.specs.Inner.Slabs.{ArePartsOf}
+use Rattle.scan_rows.proofs.slabs.parts_from.Given as goal
+
+abbrev pub invariant-each : goal.invariant-each
+invariant-each l = ArePartsOf (λ y. ¬ (y <ℤ l.mark.y0)) (take l.oct-index l.octs) l.parts.items
