@@ -3,3 +3,4 @@ pub mod Owes
 pub mod Counting
 pub mod OneDue
 pub mod EndsOf
+pub mod Settled

@@ -90,7 +90,7 @@ nothing_said words s file said lines f = unsaid_words (asked_today words) s (Pas
 
 -- ---- a quiet run answers what is due
 
-no_fault : (answer : Ended) (words : List GivenWord) (before now : Counts) (s t : Seen)
+pub no_fault : (answer : Ended) (words : List GivenWord) (before now : Counts) (s t : Seen)
     → Leaves today answer words s t → IsCaused answer before now → IsQuietToday before now → IsDeskFault answer → ⊥
 no_fault (Unreadable role) words before now s t l c q f = q.reading c
 no_fault (Unwritten given) words before now s t l c q f = q.writing c

@@ -1,22 +1,26 @@
 -- What the program owes today. It has one command, without options; it fills every board, counts no lines and says nothing.
 -- This file stands for all that is missing. It goes when every command is there: then the duties are those of the whole
 -- program, `all_duties`.
-use Rattle.std.specs.Prelude.{◌≡◌, ℕ, Bool, false, not, ◌&&◌, ◌||◌, if◌then◌else◌, List, [], ◌∷◌, Some}
+use Rattle.std.specs.Prelude.{◌≡◌, ℕ, ◌≤◌, length, Bool, false, not, ◌&&◌, ◌||◌, if◌then◌else◌, List, [], ◌∷◌, Some}
 use Rattle.std.specs.Str.{bytes_eq}
 use lib.Chars.{codes}
 use Rattle.desk.specs.declared.Counts.{Counts}
 use Rattle.desk.specs.Seen.{Seen, content}
 use Rattle.desk.specs.Faults.{Rose}
 use Rattle.board_language.specs.declared.board.Rules.{Rules}
+use Rattle.sexpr_text.specs.Items.{Item}
+use Rattle.sexpr_text.specs.Trees.{IsRoot}
+use Rattle.board_language.specs.Reading.{IsAccepted}
 use Rattle.board_language.specs.Board.{Board}
 use Rattle.edit_language.specs.Edited.{IsBoardOf}
 use Rattle.run_rules.specs.declared.words.Command.{Command}
 use Rattle.run_rules.specs.declared.words.Command.TheVariants as commands
 use Rattle.run_rules.specs.declared.words.UsageFault.TheVariants.{Words}
-use Rattle.run_rules.specs.declared.ended.Ended.TheVariants.{Usage}
+use Rattle.run_rules.specs.declared.ended.Ended.TheVariants.{Usage, Done, Memory}
+use Rattle.run_rules.specs.declared.ended.Ended.{Ended}
 use Rattle.run_rules.specs.declared.ended.Role.TheVariants.{In}
 use Rattle.run_rules.specs.Words.{GivenWord, Wanted, is_option, wanted}
-use Rattle.run_rules.specs.Words.Wanted.{Wrong}
+use Rattle.run_rules.specs.Words.Wanted.{Wrong, Run}
 use Rattle.run_rules.specs.Due.{Due, Duties, OwesFile, OwesBoard}
 use Rattle.run_rules.specs.Due.Due.{Refuse, Pass}
 use Rattle.top_call.specs.Output.{IsFilledText}
@@ -64,3 +68,21 @@ today = record { asked = asked_today; Owes = OwesToday }
 pub record IsQuietToday (before now : Counts) : Type 0 where
   pub reading : Rose before.reading now.reading → ⊥
   pub writing : Rose before.writing now.writing → ⊥
+
+-- the words are `fill`, and IN is a text of at most 67,108,864 bytes whose board has no offence
+pub record IsAcceptedFill (words : List GivenWord) (s : Seen) : Type 0 where
+  pub input : List ℕ
+  pub output : List ℕ
+  pub threads : ℕ
+  pub rules : Rules
+  pub asked : asked_today words ≡ Run (commands.Fill input output threads rules)
+  pub short : length (content input s) ≤ 67108864
+  pub root : Item
+  pub text : IsRoot (content input s) root
+  pub accepted : IsAccepted (content input s) root
+
+-- the run is done, but for want of memory
+abbrev pub IsDoneOrMemory : Ended → Type 0
+IsDoneOrMemory (Done lines) = Unit {0}
+IsDoneOrMemory Memory = Unit {0}
+IsDoneOrMemory other = ⊥

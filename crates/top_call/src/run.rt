@@ -7,7 +7,7 @@ ghost use Rattle.desk.specs.Room.{HasRoomTold};
 ghost use Rattle.run_rules.specs.Due.{Due, IsDue};
 ghost use Rattle.run_rules.specs.Leaves.{IsCaused, Leaves, Ends, IsQuiet, IsAnswerTo, HasRoomFor};
 ghost use Rattle.top_call.specs.Refusals.{answer_of, answer_of_stop, answer_of_words};
-ghost use Rattle.top_call.specs.Today.{today, IsQuietToday};
+ghost use Rattle.top_call.specs.Today.{today, IsQuietToday, IsAcceptedFill, IsDoneOrMemory};
 ghost use Rattle.top_call.specs.Steps.{IsCounted};
 
 use crate::filled::{Refusal, filled};
@@ -114,6 +114,11 @@ pub fn run_single<D: Desk, L: Ledger>(
     ensures complete { Told (D.seen desk.old) (λ s.
         IsQuietToday (D.counts desk.old) (D.counts desk.new) → (due : Due)
         → IsDue today (map string_bytes words.now) s due → IsAnswerTo result due) }
+
+    // So over an accepted board it is done, want of memory aside.
+    ensures settles { Told (D.seen desk.old) (λ s.
+        IsQuietToday (D.counts desk.old) (D.counts desk.new)
+        → IsAcceptedFill (map string_bytes words.now) s → IsDoneOrMemory result) }
 
     // Where it is done, it took a step for each task of the board of IN.
     ensures counts { Told (D.seen desk.old)

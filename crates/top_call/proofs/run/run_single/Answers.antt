@@ -2,6 +2,7 @@ use Rattle.std.proofs.Common.{◌∙◌, map}
 use Rattle.std.specs.String.{string_bytes}
 use Rattle.top_call.proofs.OneDue.{answers_due}
 use Rattle.top_call.proofs.EndsOf.{ends_of, quiet_before}
+use Rattle.top_call.proofs.Settled.{settled}
 use Rattle.top_call.proofs.run.run_single.Goals as goal
 
 pub returns-clause-ends : goal.returns-clause-ends
@@ -15,3 +16,9 @@ returns-clause-complete g c s e q due d =
     let w = c.work-ended.ensures.leaves s e in
     answers_due c.work-ended.result (map string_bytes c.args.words.now) (g.D.Desk.counts c.args.desk.now) (g.D.Desk.counts c.work-ended.new.desk) s w.0 due w.1 c.work-ended.ensures.cause
     (quiet_before _ _ _ c.complain_all.ensures.others q) d
+
+pub returns-clause-settles : goal.returns-clause-settles
+returns-clause-settles g c s e q f =
+    let w = c.work-ended.ensures.leaves s e in
+    settled c.work-ended.result (map string_bytes c.args.words.now) (g.D.Desk.counts c.args.desk.now) (g.D.Desk.counts c.work-ended.new.desk) s w.0 w.1 c.work-ended.ensures.cause
+    (quiet_before _ _ _ c.complain_all.ensures.others q) f
