@@ -1,6 +1,7 @@
 // The lines of a filled board.
+use crate::asked::answer;
 use crate::filling::FilledBoard;
-use fills::Task;
+use fills::{Fill, Task};
 use grid_num::{MmText, Nm, Point, write_mm};
 use outlines::Traced;
 use std::alloc::{AllocError, Global};
@@ -54,8 +55,25 @@ fn add_head(
     text.push_str(head.as_str())
 }
 
-/// What is printed of a filled board: of each task, in rank order, its head and its rings.
-pub fn lines_of(alloc: Global, filled: &FilledBoard) -> Result<String, AllocError> {
+/// Adds what is answered of a fill, question by question.
+fn add_answers(
+    alloc: Global,
+    text: &mut String,
+    fill: &Fill,
+    questions: &[String],
+) -> Result<(), AllocError> {
+    for question in questions {
+        text.push_str(answer(alloc, fill, question.as_str())?.as_str())?;
+    }
+    Ok(())
+}
+
+/// What is printed of a filled board: of each task, in rank order, its head, its rings and what is answered of its fill.
+pub fn lines_of(
+    alloc: Global,
+    filled: &FilledBoard,
+    questions: &[String],
+) -> Result<String, AllocError> {
     let mut text = String::new(alloc);
     for rank in 0..filled.fills.len() {
         let Some(traced) = filled.traced.get(rank) else {
@@ -65,6 +83,7 @@ pub fn lines_of(alloc: Global, filled: &FilledBoard) -> Result<String, AllocErro
         for ring in &traced.rings {
             add_ring(&mut text, &ring.corners)?;
         }
+        add_answers(alloc, &mut text, &filled.fills[rank], questions)?;
     }
     Ok(text)
 }

@@ -1,9 +1,11 @@
 //! The program `fill_table`: it reads small boards, fills them, and prints the rings of each zone.
 //! Nothing stands above it: what it prints is compared with `stdout`, which was worked out from the rules of the fill.
-//! A line that begins with `== ` is a title, and the board stands behind it. Corners are in millimetres, areas twice over in square
-//! nanometres.
+//! A line that begins with `== ` is a title, and the board stands behind it. Lines between the two ask for more: `pieces` for the
+//! numbers of pieces, spokes and parts of each fill, `at X Y` for whether it covers that point.
+//! Corners and points are in millimetres, areas twice over in square nanometres.
 #![tactic(auto)]
 
+mod asked;
 mod filling;
 mod lines;
 
@@ -14,13 +16,39 @@ use std::io;
 use std::marker::Brand;
 use std::sync::ledger::Blank;
 
+/// A board's text, and what is asked of its fills.
+#[derive(Drop)]
+struct Case {
+    questions: Vec<String>,
+    text: String,
+}
+
+impl Case {
+    fn new(alloc: Global) -> Case {
+        Case {
+            questions: Vec::new(alloc),
+            text: String::new(alloc),
+        }
+    }
+
+    /// Takes a line in: the board begins with the first that begins with a parenthesis.
+    fn add(&mut self, line: String) -> Result<(), AllocError> {
+        if self.text.is_empty() && !line.as_str().starts_with('(') {
+            self.questions.push(line)?;
+            return Ok(());
+        }
+        self.text.push_str(line.as_str())?;
+        self.text.push_str("\n")
+    }
+}
+
 /// What is printed of a board; of none, nothing.
-fn said(alloc: Global, text: &str) -> Result<String, AllocError> {
-    if text.is_empty() {
+fn said(alloc: Global, case: &Case) -> Result<String, AllocError> {
+    if case.text.is_empty() {
         return Ok(String::new(alloc));
     }
-    match filled::<Brand>(alloc, text.as_bytes(), Blank::new(1)) {
-        Ok(board) => lines_of(alloc, &board),
+    match filled::<Brand>(alloc, case.text.as_bytes(), Blank::new(1)) {
+        Ok(board) => lines_of(alloc, &board, &case.questions),
         Err(Stop::Memory) => String::from_str(alloc, "  out of memory\n"),
         Err(Stop::Refused) => String::from_str(alloc, "  refused\n"),
     }
@@ -28,18 +56,17 @@ fn said(alloc: Global, text: &str) -> Result<String, AllocError> {
 
 fn main(rt: HostRuntime) -> io::Result<()> {
     let alloc = rt.alloc();
-    let mut text = String::new(alloc);
+    let mut case = Case::new(alloc);
     for line in rt.lines(alloc) {
         let line = line?;
         if let Some(title) = line.as_str().strip_prefix("== ") {
-            print!(rt; "{}", said(alloc, text.as_str())?)?;
+            print!(rt; "{}", said(alloc, &case)?)?;
             println!(rt; "{title}")?;
-            text = String::new(alloc);
+            case = Case::new(alloc);
         } else {
-            text.push_str(line.as_str())?;
-            text.push_str("\n")?;
+            case.add(line)?;
         }
     }
-    print!(rt; "{}", said(alloc, text.as_str())?)?;
+    print!(rt; "{}", said(alloc, &case)?)?;
     Ok(())
 }
