@@ -5,6 +5,7 @@
     python3 bench/real.py --sums FILE FOLDER      asks for written boards of these sums too: lines `name sha256`, or rows of a table in
                                                   Markdown that begin so, `| name | sha256 |`. Where a table there has a column whose title
                                                   begins with KiCad, that is how many processor seconds KiCad's own filler takes
+    python3 bench/real.py --made SIZE .. [--]     boards made by rule of these sizes (`board_by_rule.py`, seed 1), behind those of the folder if one is named
     python3 bench/real.py --limit SECONDS ..      kills a run that takes longer, 300 where that isn't said, and lists it so
     python3 bench/real.py --program PROGRAM ..    another program; else build it first, by `rt run` in crates/zonefill
 
@@ -23,6 +24,8 @@ import sys
 import tempfile
 import threading
 import time
+
+import board_by_rule
 
 TOP = os.path.dirname(os.path.dirname(os.path.abspath(__file__)))
 PROGRAM = os.path.join(TOP, "crates", "zonefill", "out", "zonefill")
@@ -94,27 +97,42 @@ def fill(program, source, limit, wanted):
         return items, seconds, passed, memory, answer(program, target, again, wanted, status, limit)
 
 
+def listed(folder):
+    """The boards of a folder, the smallest first; none where no folder is named."""
+    names = os.listdir(folder) if folder else []
+    return sorted((os.path.join(folder, it) for it in names if it.endswith(".kicad_pcb")), key=os.path.getsize)
+
+
+def made(folder, size):
+    """Writes the board by rule of that size, and returns where."""
+    path = os.path.join(folder, f"size_{size}.kicad_pcb")
+    with open(path, "w", encoding="utf-8") as file:
+        file.write(board_by_rule.board(1, size))
+    return path
+
+
 def main():
     parser = argparse.ArgumentParser(description=__doc__, formatter_class=argparse.RawDescriptionHelpFormatter)
     parser.add_argument("--sums")
     parser.add_argument("--limit", type=float, default=300)
     parser.add_argument("--program", default=PROGRAM)
-    parser.add_argument("folder")
+    parser.add_argument("--made", type=int, nargs="+", default=[])
+    parser.add_argument("folder", nargs="?")
     given = parser.parse_args()
     program = os.path.abspath(given.program)
     if not os.path.exists(program):
         sys.exit(f"no {program}: run `rt run` in crates/zonefill first")
     sums, kicad = sums_of(given.sums) if given.sums else ({}, {})
-    sources = [os.path.join(given.folder, it) for it in os.listdir(given.folder) if it.endswith(".kicad_pcb")]
     answers = []
     print(f"{'board':30}   items   seconds    passed      MiB     KiCad     times  answer")
-    for source in sorted(sources, key=os.path.getsize):
-        name = os.path.basename(source).removesuffix(".kicad_pcb")
-        items, seconds, passed, memory, said = fill(program, source, given.limit, sums.get(name))
-        answers.append(said)
-        other = f"{kicad[name]:9.2f}" if name in kicad else f"{'-':>9}"
-        times = f"{seconds / kicad[name]:9.1f}" if kicad.get(name) and said in GOOD else f"{'-':>9}"
-        print(f"{name:30} {items:7}  {seconds:8.2f}  {passed:8.2f}  {memory:7.0f} {other} {times}  {said}", flush=True)
+    with tempfile.TemporaryDirectory() as folder:
+        for source in listed(given.folder) + [made(folder, size) for size in given.made]:
+            name = os.path.basename(source).removesuffix(".kicad_pcb")
+            items, seconds, passed, memory, said = fill(program, source, given.limit, sums.get(name))
+            answers.append(said)
+            other = f"{kicad[name]:9.2f}" if name in kicad else f"{'-':>9}"
+            times = f"{seconds / kicad[name]:9.1f}" if kicad.get(name) and said in GOOD else f"{'-':>9}"
+            print(f"{name:30} {items:7}  {seconds:8.2f}  {passed:8.2f}  {memory:7.0f} {other} {times}  {said}", flush=True)
     counts = [answers.count("as due"), answers.count("no sum"), sum("killed" in it for it in answers)]
     print(f"{len(answers)} boards: {counts[0]} as due, {counts[1]} without a sum, {counts[2]} killed, {len(answers) - sum(counts)} otherwise")
     sys.exit(0 if all(it in GOOD for it in answers) else 1)
