@@ -6,7 +6,7 @@ ghost use Rattle.fill_rules.specs.Tasks.{ranked};
 ghost use Rattle.fills.specs.Fills.{task_of};
 ghost use Rattle.output_rules.specs.Output.{board_pieces, text_with_rings};
 ghost use Rattle.output_rules.specs.Shown.{piece_shown};
-ghost use Rattle.fill_text.specs.Zone.{AreInRange};
+ghost use Rattle.outlines.specs.Drawn.{AreInRange};
 
 use crate::zone::{Written, zone_text};
 use board_model::Board;

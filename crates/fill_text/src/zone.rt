@@ -8,7 +8,8 @@ ghost use Rattle.fill_rules.specs.Tasks.{layers_below, ranked};
 ghost use Rattle.fill_rules.specs.Nodes.{rank_in};
 ghost use Rattle.fills.specs.Fills.{task_of};
 ghost use Rattle.output_rules.specs.Output.{rings_text};
-ghost use Rattle.fill_text.specs.Zone.{AreInRange, layer_text};
+ghost use Rattle.outlines.specs.Drawn.{AreInRange};
+ghost use Rattle.fill_text.specs.Zone.{layer_text};
 
 use board_model::Board;
 use fills::Task;
