@@ -2,14 +2,17 @@
 """Fills each board of a folder with the built program, and prints what that took. It never fails the gate.
 
     python3 bench/real.py FOLDER                  fills each FOLDER/*.kicad_pcb, the smallest first
-    python3 bench/real.py --sums FILE FOLDER      asks for written boards of these sums too: lines `name sha256`, or rows of a table in
-                                                  Markdown that begin so, `| name | sha256 |`. Where a table there has a column whose title
-                                                  begins with KiCad, that is how many processor seconds KiCad's own filler takes
+    python3 bench/real.py --sums FILE FOLDER      asks for written boards, and reports, of these sums too: lines `name sha256 [sha256]`, or rows of a
+                                                  table in Markdown that begin so, `| name | sha256 | sha256 |`, the board's sum and the report's. Where a
+                                                  table there has a column whose title begins with KiCad, that is how many processor seconds KiCad's
+                                                  own filler takes
+    python3 bench/real.py --threads N ..          fills with so many workers, 1 where that isn't said
     python3 bench/real.py --made SIZE .. [--]     boards made by rule of these sizes (`board_by_rule.py`, seed 1), behind those of the folder if one is named
     python3 bench/real.py --limit SECONDS ..      kills a run that takes longer, 300 where that isn't said, and lists it so
     python3 bench/real.py --program PROGRAM ..    another program; else build it first, by `rt run` in crates/zonefill
 
-Each run must end with status 0, write the board of that sum, and write the same bytes again where it fills what it wrote; the answer says `as due`, or what
+Each run must end with status 0, write the board and say the report of those sums, and write the same bytes again where it fills what it wrote, with one
+worker; and `report` must say what `fill` said. The answer says `as due`, or what
 was otherwise, and a board without a sum `no sum`. Items are pads, tracks, vias, zones and drawings on the edge. Seconds are those on the processor, of all threads, from
 reading the board to writing it; then those that passed. Times is how often KiCad's seconds go into the former: KiCad's are of the fill alone. Memory is the
 greatest at any time, in MiB, and never below what this script itself takes. The status is 1 where a board isn't answered as due.
@@ -34,13 +37,14 @@ ITEM = re.compile(rb'\((?:pad|segment|via|zone)\s|\(layer "?Edge\.Cuts"?\)')
 
 
 def sums_of(file):
-    """Returns by name what a file says: the sums of written boards, and the seconds of KiCad's filler."""
+    """Returns by name what a file says: the sums of written boards and of reports, and the seconds of KiCad's filler."""
     sums, seconds, titles = {}, {}, []
     with open(file, encoding="utf-8") as lines:
         for line in lines:
             cells = [it.strip() for it in line.strip().strip("|").split("|")] if line.startswith("|") else line.split()
-            if len(cells) > 1 and re.fullmatch("[0-9a-f]{64}", cells[1]):
-                sums[cells[0]] = cells[1]
+            found = [it for it in cells[1:3] if re.fullmatch("[0-9a-f]{64}", it)]
+            if found:
+                sums[cells[0]] = found
             if not line.startswith("|"):
                 titles = []
             elif not titles:
@@ -51,10 +55,11 @@ def sums_of(file):
     return sums, seconds
 
 
-def timed(command, limit):
+def timed(command, limit, said=os.devnull):
     """Seconds on the processor, seconds that passed, peak MiB and exit status of a run, with no status where it is killed at the limit."""
     start = time.monotonic()
-    child = subprocess.Popen(command, stdout=subprocess.DEVNULL, stderr=subprocess.DEVNULL)
+    with open(said, "wb") as out:
+        child = subprocess.Popen(command, stdout=out, stderr=subprocess.DEVNULL)
     killed = threading.Event()
 
     def kill():
@@ -70,31 +75,49 @@ def timed(command, limit):
     return usage.ru_utime + usage.ru_stime, passed, usage.ru_maxrss / 1024, None if killed.is_set() else child.returncode
 
 
-def answer(program, target, again, wanted, status, limit):
-    """Says `as due`, or what isn't so of a run's status and of the board that it wrote."""
+def other_bytes(files, wanted):
+    """Says which of the files has another sum than is wanted; nothing where they have those."""
+    for file, due in zip(files, wanted):
+        with open(file, "rb") as it:
+            found = hashlib.sha256(it.read()).hexdigest()
+        if found != due:
+            return f"{os.path.basename(file)}: sum {found}"
+    return None
+
+
+def other_run(program, words, files, limit):
+    """Says how a second run differs: it must end well, and make the second file as the first is. Nothing where it does."""
+    first, second = files
+    said = second if words[0] == "report" else os.devnull
+    _, _, _, status = timed([program, *words], limit, said)
+    if status != 0:
+        return f"{words[0]} again: " + ("killed" if status is None else f"status {status}")
+    return None if filecmp.cmp(first, second, shallow=False) else f"{words[0]} again: other bytes"
+
+
+def answer(program, source, files, wanted, status, limit):
+    """Says `as due`, or what isn't so of a run's status, and of the board and the report that it made."""
     if status is None:
         return f"killed after {limit:g} s"
     if status != 0:
         return f"status {status}"
-    with open(target, "rb") as file:
-        found = hashlib.sha256(file.read()).hexdigest()
-    if wanted is not None and found != wanted:
-        return f"sum {found}"
-    _, _, _, status = timed([program, "fill", target, again], limit)
-    if status != 0:
-        return "filled again: " + ("killed" if status is None else f"status {status}")
-    if not filecmp.cmp(target, again, shallow=False):
-        return "filled again: other bytes"
-    return "as due" if wanted is not None else "no sum"
+    target, report, again = files
+    return (
+        other_bytes([target, report], wanted)
+        or other_run(program, ["fill", target, again], [target, again], limit)
+        or other_run(program, ["report", source], [report, again], limit)
+        or ("as due" if wanted else "no sum")
+    )
 
 
-def fill(program, source, limit, wanted):
+def fill(program, source, limit, wanted, threads):
     """Fills a board, and again what was written: items, processor seconds, seconds that passed, peak MiB, and the answer."""
     with tempfile.TemporaryDirectory() as folder, open(source, "rb") as file:
         items = sum(1 for _ in ITEM.finditer(file.read()))
-        target, again = os.path.join(folder, "out"), os.path.join(folder, "again")
-        seconds, passed, memory, status = timed([program, "fill", source, target], limit)
-        return items, seconds, passed, memory, answer(program, target, again, wanted, status, limit)
+        files = [os.path.join(folder, it) for it in ("out", "report", "again")]
+        command = [program, "fill", source, files[0], f"--threads={threads}"]
+        seconds, passed, memory, status = timed(command, limit, files[1])
+        return items, seconds, passed, memory, answer(program, source, files, wanted, status, limit)
 
 
 def listed(folder):
@@ -115,6 +138,7 @@ def main():
     parser = argparse.ArgumentParser(description=__doc__, formatter_class=argparse.RawDescriptionHelpFormatter)
     parser.add_argument("--sums")
     parser.add_argument("--limit", type=float, default=300)
+    parser.add_argument("--threads", type=int, default=1)
     parser.add_argument("--program", default=PROGRAM)
     parser.add_argument("--made", type=int, nargs="+", default=[])
     parser.add_argument("folder", nargs="?")
@@ -128,7 +152,7 @@ def main():
     with tempfile.TemporaryDirectory() as folder:
         for source in listed(given.folder) + [made(folder, size) for size in given.made]:
             name = os.path.basename(source).removesuffix(".kicad_pcb")
-            items, seconds, passed, memory, said = fill(program, source, given.limit, sums.get(name))
+            items, seconds, passed, memory, said = fill(program, source, given.limit, sums.get(name, []), given.threads)
             answers.append(said)
             other = f"{kicad[name]:9.2f}" if name in kicad else f"{'-':>9}"
             times = f"{seconds / kicad[name]:9.1f}" if kicad.get(name) and said in GOOD else f"{'-':>9}"

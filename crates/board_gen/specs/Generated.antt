@@ -30,18 +30,18 @@ abbrev pub corner_in_mm : ℕ → ℕ → List ℕ
 corner_in_mm x y = mm_of (pos x) ++ (codes " " ++ mm_of (pos y))
 
 -- an item's stamp has the item's number
-abbrev pub stamp_text : ℕ → List ℕ
-stamp_text i = codes " (tstamp g" ++ (decimal i ++ codes "))\n")
+abbrev pub item_stamp_text : ℕ → List ℕ
+item_stamp_text i = codes " (tstamp g" ++ (decimal i ++ codes "))\n")
 
 -- the line of a via
 abbrev pub via_text : List ℕ → ℕ → ℕ → ℕ → List ℕ
 via_text net x y i =
-    codes "  (via (at " ++ (corner_in_mm x y ++ (codes ") (size 0.6) (drill 0.3) (layers \"F.Cu\" \"B.Cu\") (net " ++ (net ++ (codes ")" ++ stamp_text i))))
+    codes "  (via (at " ++ (corner_in_mm x y ++ (codes ") (size 0.6) (drill 0.3) (layers \"F.Cu\" \"B.Cu\") (net " ++ (net ++ (codes ")" ++ item_stamp_text i))))
 
 -- from half a millimetre left of the place to half a millimetre right and a quarter below
 abbrev pub track_text : ℕ → ℕ → ℕ → List ℕ
 track_text x y i =
-    codes "  (segment (start " ++ (corner_in_mm (x - 500000) y ++ (codes ") (end " ++ (corner_in_mm (x + 500000) (y + 250000) ++ (codes ") (width 0.25) (layer \"F.Cu\") (net 2)" ++ stamp_text i))))
+    codes "  (segment (start " ++ (corner_in_mm (x - 500000) y ++ (codes ") (end " ++ (corner_in_mm (x + 500000) (y + 250000) ++ (codes ") (width 0.25) (layer \"F.Cu\") (net 2)" ++ item_stamp_text i))))
 
 -- a cell has a via of net 1, a via of net 2, a track of net 2 or nothing, by the drawn number
 abbrev pub item_text : ℕ → ℕ → ℕ → ℕ → List ℕ

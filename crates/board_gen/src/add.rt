@@ -2,7 +2,7 @@
 ghost use Rattle.std.specs.Prelude.{◌≡◌, ◌≤◌, ◌++◌, pos, OnOk};
 ghost use Rattle.std.specs.Fmt.{decimal};
 ghost use Rattle.grid_num.specs.Written.{mm_of};
-ghost use Rattle.board_gen.specs.Generated.{corner_in_mm, stamp_text};
+ghost use Rattle.board_gen.specs.Generated.{corner_in_mm, item_stamp_text};
 
 use grid_num::{Memory, MmText, Nm, write_mm};
 use itoa::Buffer;
@@ -40,7 +40,7 @@ pub fn add_point(out: &mut Vec<u8>, x: u64, y: u64) -> Result<(), Memory>
 
 /// Adds an item's stamp, and its end.
 pub fn add_stamp(out: &mut Vec<u8>, number: u64) -> Result<(), Memory>
-    ensures { OnOk result (out.new.items ≡ out.old.items ++ stamp_text number) }
+    ensures { OnOk result (out.new.items ≡ out.old.items ++ item_stamp_text number) }
 {
     let mut buffer = Buffer::new();
     add(out, b" (tstamp g")?;

@@ -8,7 +8,7 @@ use Rattle.plane.proofs.Near.{StrictlyIn-In}
 use Rattle.classes.specs.Classes.{IsOneOf}
 use Rattle.strips.specs.Strips.{HasInside, IsStout}
 use Rattle.strips.proofs.Inside.{inside}
-use Rattle.open_laws.specs.Open.{IsEntering, AreOverlapping}
+use Rattle.open_laws.specs.Open.{ReachesInto, AreOverlapping}
 use Rattle.open_laws.proofs.Both.{open_both}
 use Rattle.open_laws.proofs.OffEdges.{beside}
 use Rattle.outline_slab.specs.Cuts.{IsInSome}
@@ -19,7 +19,7 @@ use Rattle.fill_rules.specs.Tasks.{zone_at, layer_at}
 use Rattle.fill_rules.specs.Fill.{Fits}
 use Rattle.fill_rules.proofs.Members.{some_one_of}
 use Rattle.board_language.proofs.Members.{all_one_of}
-use Rattle.centres.specs.Walls.{IsOffLimits, IsOnSide, AreWalls, EntersNone}
+use Rattle.centres.specs.Walls.{IsOffLimits, IsAlongWall, AreWalls, EntersNone}
 use Rattle.centres.specs.Laws.{FitsLaw}
 use Rattle.centres.proofs.Covered.{covers_or_not}
 use Rattle.centres.proofs.Listed.{one_any}
@@ -38,8 +38,8 @@ one_side (c ∷ areas) a p (inr i) o = any_right (λ e. IsOn e p) (edges_of c.ou
 sides : Board → ℕ → List Edge
 sides b i = edges_of (zone_at b i).outline ++ sides_of_all b.areas
 
-off_sides : (b : Board) (i : ℕ) (p : PlanePoint) → (Any (λ e. IsOn e p) (sides b i) → ⊥) → IsOnSide (zone_at b i).outline (layer_at b i) b.areas p → ⊥
-unfolding IsOnSide sides
+off_sides : (b : Board) (i : ℕ) (p : PlanePoint) → (Any (λ e. IsOn e p) (sides b i) → ⊥) → IsAlongWall (zone_at b i).outline (layer_at b i) b.areas p → ⊥
+unfolding IsAlongWall sides
 off_sides b i p off (inl o) = off (any_left (λ e. IsOn e p) (edges_of (zone_at b i).outline) (sides_of_all b.areas) o)
 off_sides b i p off (inr (a, k, o)) = off (any_right (λ e. IsOn e p) (edges_of (zone_at b i).outline) (sides_of_all b.areas) (one_side b.areas a p k.0 o))
 
@@ -65,7 +65,7 @@ unfolding HasInside
 inside_of w t s = inside w t s
 
 fits_enters : (b : Board) (i : ℕ) (frame : Bounds) (walls : List Bounds) (o : Bounds) → AreWalls b i frame walls → Fits b i o → EntersNone walls o
-unfolding EntersNone IsEntering AreOverlapping
+unfolding EntersNone ReachesInto AreOverlapping
 fits_enters b i frame walls o w f c k e =
     let z = inside_of c (all_one_of IsTight walls c w.tight k) (all_one_of IsStout walls c w.stout k) in
     let m = (open_both o c z.0 z.1).0 e in
@@ -74,7 +74,7 @@ fits_enters b i frame walls o w f c k e =
 
 -- ---- where no wall is entered
 enters_none : (walls : List Bounds) (o : Bounds) (p : PlanePoint) → EntersNone walls o → StrictlyIn o p → IsInSome walls p → ⊥
-unfolding EntersNone IsEntering
+unfolding EntersNone ReachesInto
 enters_none walls o p n s a = let w = some_one_of (λ (c : Bounds). In c p) walls a in n w.0 w.1 (p, s, w.2)
 
 off_none : (b : Board) (i : ℕ) (frame : Bounds) (walls : List Bounds) (o : Bounds) → AreWalls b i frame walls

@@ -5,7 +5,7 @@ use Rattle.std.specs.Prelude.{◌↔◌, ℤ, pos, ◌+ℤ◌, ◌≤ℤ◌}
 use Rattle.std.proofs.lemmas.Int.{ints}
 use Rattle.plane.specs.Plane.{Bounds, Within, StrictlyWithin, IsTight, AreNear, box_of}
 use Rattle.classes.specs.Classes.{IsOneOf}
-use Rattle.open_laws.specs.Open.{IsEntering}
+use Rattle.open_laws.specs.Open.{ReachesInto}
 use Rattle.open_laws.proofs.Box.{open_box}
 use Rattle.hulls.specs.Cells.{floor_of}
 use Rattle.board_language.specs.declared.board.Pad.{Pad}
@@ -22,7 +22,7 @@ use Rattle.fill_rules.proofs.Sound.{fillable}
 use Rattle.centres.specs.Walls.{EntersNone}
 use Rattle.centres.specs.Needs.{KeepsAll, LiesIn, frame_at, IsClearBy}
 use Rattle.centres.specs.Centres.{AreLimits}
-use Rattle.centres.specs.Laws.{LiveLaw, IsWide, SpokeLaw, EnteredLaw}
+use Rattle.centres.specs.Laws.{LiveLaw, IsSpokeSized, SpokeLaw, EnteredLaw}
 use Rattle.centres.proofs.Listed.{all_of_members}
 use Rattle.centres.proofs.Fits.{fits_law}
 use Rattle.centres.proofs.Allowed.{thick}
@@ -47,21 +47,21 @@ live_law b i frame walls bars o l k =
     (λ h. live_there b i frame walls bars o l k h.0 h.1, λ h. live_back b i frame walls bars o l h.0 h.1 h.2)
 
 -- ---- the width
-box_wide : (x0 x1 y0 y1 : ℤ) → (x0 +ℤ pos 500) ≤ℤ x1 → (y0 +ℤ pos 500) ≤ℤ y1 → IsWide (box_of x0 x1 y0 y1)
+box_wide : (x0 x1 y0 y1 : ℤ) → (x0 +ℤ pos 500) ≤ℤ x1 → (y0 +ℤ pos 500) ≤ℤ y1 → IsSpokeSized (box_of x0 x1 y0 y1)
 box_wide x0 x1 y0 y1 h g = record { box = refl; across = h; along = g }
 
 four_wide : (x y : ℤ) (b h g : ℕ) (hull : Bounds) → 250 ≤ b → b ≤ h → Within hull x y
-    → (o : Bounds) → IsOneOf o (spokes_by x y (pos b) (pos h) (pos (g + b)) hull) → IsWide o
+    → (o : Bounds) → IsOneOf o (spokes_by x y (pos b) (pos h) (pos (g + b)) hull) → IsSpokeSized o
 unfolding IsOneOf
-four_wide x y b h g hull w up i o (inl e) = subst IsWide (sym e) (box_wide _ _ _ _ (omega (arith, ints, i.x_high)) (omega (arith, ints)))
-four_wide x y b h g hull w up i o (inr (inl e)) = subst IsWide (sym e) (box_wide _ _ _ _ (omega (arith, ints)) (omega (arith, ints, i.y_high)))
-four_wide x y b h g hull w up i o (inr (inr (inl e))) = subst IsWide (sym e) (box_wide _ _ _ _ (omega (arith, ints, i.x_low)) (omega (arith, ints)))
-four_wide x y b h g hull w up i o (inr (inr (inr (inl e)))) = subst IsWide (sym e) (box_wide _ _ _ _ (omega (arith, ints)) (omega (arith, ints, i.y_low)))
+four_wide x y b h g hull w up i o (inl e) = subst IsSpokeSized (sym e) (box_wide _ _ _ _ (omega (arith, ints, i.x_high)) (omega (arith, ints)))
+four_wide x y b h g hull w up i o (inr (inl e)) = subst IsSpokeSized (sym e) (box_wide _ _ _ _ (omega (arith, ints)) (omega (arith, ints, i.y_high)))
+four_wide x y b h g hull w up i o (inr (inr (inl e))) = subst IsSpokeSized (sym e) (box_wide _ _ _ _ (omega (arith, ints, i.x_low)) (omega (arith, ints)))
+four_wide x y b h g hull w up i o (inr (inr (inr (inl e)))) = subst IsSpokeSized (sym e) (box_wide _ _ _ _ (omega (arith, ints)) (omega (arith, ints, i.y_low)))
 four_wide x y b h g hull w up i o (inr (inr (inr (inr n)))) = absurd n
 
 pad_wide : (z : Settings) (p : Pad) → 250 ≤ brush_radius z
     → ((h : Bounds) → IsOneOf h (pad_hulls p) → Within h (floor_of 2 p.at.x) (floor_of 2 p.at.y))
-    → (o : Bounds) → IsOneOf o (pad_spokes z p) → IsWide o
+    → (o : Bounds) → IsOneOf o (pad_spokes z p) → IsSpokeSized o
 unfolding pad_spokes
 pad_wide z p w held o i =
     let b = brush_radius z in
@@ -95,18 +95,18 @@ box_some x0 x1 y0 y1 h g = (
   },
 )
 
-some_inside : (o : Bounds) → IsWide o → (x : ℤ) × (y : ℤ) × StrictlyWithin o x y
+some_inside : (o : Bounds) → IsSpokeSized o → (x : ℤ) × (y : ℤ) × StrictlyWithin o x y
 some_inside o w = subst (λ (c : Bounds). (x : ℤ) × (y : ℤ) × StrictlyWithin c x y) (sym w.box) (box_some o.x0 o.x1 o.y0 o.y1 w.across w.along)
 
-near_wall : (o inner w : Bounds) → IsWide o → IsTight inner → ((x y : ℤ) → Within inner x y ↔ StrictlyWithin o x y) → IsTight w
-    → IsEntering o w ↔ AreNear 1 inner w
+near_wall : (o inner w : Bounds) → IsSpokeSized o → IsTight inner → ((x y : ℤ) → Within inner x y ↔ StrictlyWithin o x y) → IsTight w
+    → ReachesInto o w ↔ AreNear 1 inner w
 near_wall o inner w k t s u =
     let q : (x y : ℤ) → Within inner x y ↔ StrictlyWithin (box_of o.x0 o.x1 o.y0 o.y1) x y =
     λ x y. (λ i. subst (λ (c : Bounds). StrictlyWithin c x y) k.box ((s x y).0 i), λ i. (s x y).1 (subst (λ (c : Bounds). StrictlyWithin c x y) (sym k.box) i)) in
     let r = open_box.opened o.x0 o.x1 o.y0 o.y1 inner w t q u in
-    (λ e. r.0 (subst (λ (c : Bounds). IsEntering c w) k.box e), λ n. subst (λ (c : Bounds). IsEntering c w) (sym k.box) (r.1 n))
+    (λ e. r.0 (subst (λ (c : Bounds). ReachesInto c w) k.box e), λ n. subst (λ (c : Bounds). ReachesInto c w) (sym k.box) (r.1 n))
 
-near_none : (o inner : Bounds) (walls : List Bounds) → IsWide o → IsTight inner
+near_none : (o inner : Bounds) (walls : List Bounds) → IsSpokeSized o → IsTight inner
     → ((x y : ℤ) → Within inner x y ↔ StrictlyWithin o x y) → All IsTight walls
     → EntersNone walls o ↔ All (λ w. AreNear 1 inner w → ⊥) walls
 unfolding EntersNone

@@ -16,7 +16,7 @@ use Rattle.outline_slab.specs.Filled.{AreFilling, IsLeftOver}
 use Rattle.board_language.specs.declared.board.Area.{Area}
 use Rattle.board_language.specs.Copper.{has_layer}
 use Rattle.board_language.proofs.Members.{one_of_append, append_left, append_right}
-use Rattle.centres.specs.Walls.{IsOffLimits, IsOnSide, AreWallsOf, stout_of}
+use Rattle.centres.specs.Walls.{IsOffLimits, IsAlongWall, AreWallsOf, stout_of}
 use Rattle.centres.specs.Laws.{WallsLaw}
 use Rattle.centres.proofs.Listed.{in_stout, stout_in, all_stout, all_tight}
 
@@ -56,19 +56,19 @@ off_last : (outline : List Point) (layer : ℕ) (areas : List Area) (a : Area) (
 unfolding IsOffLimits
 off_last outline layer areas a p l s = inr (a, (append_right a areas (a ∷ []) (alone a), l), s)
 
-side_more : (outline : List Point) (layer : ℕ) (areas : List Area) (a : Area) (p : PlanePoint) → IsOnSide outline layer areas p → IsOnSide outline layer (areas ++ a ∷ []) p
-unfolding IsOnSide
+side_more : (outline : List Point) (layer : ℕ) (areas : List Area) (a : Area) (p : PlanePoint) → IsAlongWall outline layer areas p → IsAlongWall outline layer (areas ++ a ∷ []) p
+unfolding IsAlongWall
 side_more outline layer areas a p (inl n) = inl n
 side_more outline layer areas a p (inr (c, k, s)) = inr (c, (append_left c areas (a ∷ []) k.0, k.1), s)
 
 side_last : (outline : List Point) (layer : ℕ) (areas : List Area) (a : Area) (p : PlanePoint) → has_layer a.layers layer ≡ true
-    → Any (λ e. IsOn e p) (edges_of a.outline) → IsOnSide outline layer (areas ++ a ∷ []) p
-unfolding IsOnSide
+    → Any (λ e. IsOn e p) (edges_of a.outline) → IsAlongWall outline layer (areas ++ a ∷ []) p
+unfolding IsAlongWall
 side_last outline layer areas a p l s = inr (a, (append_right a areas (a ∷ []) (alone a), l), s)
 
 -- ---- the zone's outline
-outside_parts : (outline : List Point) (layer : ℕ) (frame : Bounds) (p : PlanePoint) → IsOutside (edges_of outline) frame p → (IsOnSide outline layer [] p → ⊥) → IsOffLimits outline layer [] p
-unfolding IsOutside IsOnSide IsOffLimits
+outside_parts : (outline : List Point) (layer : ℕ) (frame : Bounds) (p : PlanePoint) → IsOutside (edges_of outline) frame p → (IsAlongWall outline layer [] p → ⊥) → IsOffLimits outline layer [] p
+unfolding IsOutside IsAlongWall IsOffLimits
 outside_parts outline layer frame p (f, inl n) side = inl n
 outside_parts outline layer frame p (f, inr o) side = absurd (side (inl o))
 

@@ -7,7 +7,7 @@ use Rattle.plane.specs.Covering.{Covers, StrictlyCovers, edges_of}
 use Rattle.classes.specs.Classes.{IsOneOf}
 use Rattle.hulls.specs.Cells.{around}
 use Rattle.slabs.specs.Outside.{IsOutside, IsFrame}
-use Rattle.open_laws.specs.Open.{IsEntering}
+use Rattle.open_laws.specs.Open.{ReachesInto}
 use Rattle.outline_slab.specs.Cuts.{HaveJust}
 use Rattle.outline_slab.specs.Filled.{AreFilling, IsLeftOver}
 use Rattle.board_language.specs.declared.board.Area.{Area}
@@ -104,7 +104,7 @@ LiveLaw =
     ↔ (LiesIn o (frame_at b i) × EntersNone walls o × KeepsAll bars o)
 
 -- a rectangle, 500 units wide and high at least
-pub record IsWide (o : Bounds) : Type 0 where
+pub record IsSpokeSized (o : Bounds) : Type 0 where
   pub box : o ≡ box_of o.x0 o.x1 o.y0 o.y1
   pub across : (o.x0 +ℤ pos 500) ≤ℤ o.x1
   pub along : (o.y0 +ℤ pos 500) ≤ℤ o.y1
@@ -113,15 +113,15 @@ pub record IsWide (o : Bounds) : Type 0 where
 abbrev pub SpokeLaw : Type 0
 SpokeLaw =
     (b : Board) (i : ℕ) (o : Bounds)
-    → IsSoundBoard b → IsOneOf o (spokes_of b (zone_at b i) (layer_at b i)) → IsWide o
+    → IsSoundBoard b → IsOneOf o (spokes_of b (zone_at b i) (layer_at b i)) → IsSpokeSized o
 
 -- so it has grid points strictly inside, and enters a wall exactly where their octagon is near the wall at 1; so it
 -- enters none where that octagon is near none
 pub record EnteredLaw : Type 0 where
-  pub some : (o : Bounds) → IsWide o → (x : ℤ) × (y : ℤ) × StrictlyWithin o x y
+  pub some : (o : Bounds) → IsSpokeSized o → (x : ℤ) × (y : ℤ) × StrictlyWithin o x y
   pub near : (o inner w : Bounds)
-      → IsWide o → IsTight inner → ((x y : ℤ) → Within inner x y ↔ StrictlyWithin o x y) → IsTight w
-      → IsEntering o w ↔ AreNear 1 inner w
+      → IsSpokeSized o → IsTight inner → ((x y : ℤ) → Within inner x y ↔ StrictlyWithin o x y) → IsTight w
+      → ReachesInto o w ↔ AreNear 1 inner w
   pub none : (o inner : Bounds) (walls : List Bounds)
-      → IsWide o → IsTight inner → ((x y : ℤ) → Within inner x y ↔ StrictlyWithin o x y) → All IsTight walls
+      → IsSpokeSized o → IsTight inner → ((x y : ℤ) → Within inner x y ↔ StrictlyWithin o x y) → All IsTight walls
       → EntersNone walls o ↔ All (λ w. AreNear 1 inner w → ⊥) walls

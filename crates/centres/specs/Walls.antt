@@ -14,7 +14,7 @@ use Rattle.grid_num.specs.declared.Point.{Point}
 use Rattle.plane.specs.Covering.{IsOn, Covers, StrictlyCovers, edges_of}
 use Rattle.classes.specs.Classes.{IsOneOf}
 use Rattle.strips.specs.Strips.{IsStout}
-use Rattle.open_laws.specs.Open.{IsEntering}
+use Rattle.open_laws.specs.Open.{ReachesInto}
 use Rattle.outline_slab.specs.Cuts.{IsInSome}
 use Rattle.board_language.specs.declared.board.Area.{Area}
 use Rattle.board_language.specs.Board.{Board}
@@ -33,8 +33,8 @@ IsOffLimits outline layer areas p =
     ⊎ ((a : Area) × IsAreaOn areas layer a × StrictlyCovers (edges_of a.outline) p)
 
 -- the point is on a side of the outline, or of one of these rule areas on the layer
-unfoldable pub IsOnSide : List Point → ℕ → List Area → PlanePoint → Type 0
-IsOnSide outline layer areas p =
+unfoldable pub IsAlongWall : List Point → ℕ → List Area → PlanePoint → Type 0
+IsAlongWall outline layer areas p =
     Any (λ e. IsOn e p) (edges_of outline)
     ⊎ ((a : Area) × IsAreaOn areas layer a × Any (λ e. IsOn e p) (edges_of a.outline))
 
@@ -44,7 +44,7 @@ pub record AreWallsOf (outline : List Point) (layer : ℕ) (areas : List Area) (
   pub tight : All IsTight walls
   pub stout : All IsStout walls
   pub each : (p : PlanePoint) → In frame p → IsOffLimits outline layer areas p → IsInSome walls p
-  pub only : (p : PlanePoint) → IsInSome walls p → (IsOnSide outline layer areas p → ⊥) → IsOffLimits outline layer areas p
+  pub only : (p : PlanePoint) → IsInSome walls p → (IsAlongWall outline layer areas p → ⊥) → IsOffLimits outline layer areas p
 
 -- they are the walls of the task of rank i, within the frame
 abbrev pub AreWalls : Board → ℕ → Bounds → List Bounds → Type 0
@@ -52,7 +52,7 @@ AreWalls b i frame walls = AreWallsOf (zone_at b i).outline (layer_at b i) b.are
 
 -- the octagon has no point of a wall strictly inside; that it lies along a wall is no harm
 unfoldable pub EntersNone : List Bounds → Bounds → Type 0
-EntersNone walls o = (w : Bounds) → IsOneOf w walls → IsEntering o w → ⊥
+EntersNone walls o = (w : Bounds) → IsOneOf w walls → ReachesInto o w → ⊥
 
 -- ---- how walls are found
 

@@ -7,12 +7,12 @@ use Rattle.plane.proofs.Tight.{top_left_y}
 use Rattle.grid_num.specs.declared.Point.{Point}
 use Rattle.classes.specs.Classes.{Reaches, IsLeastOf}
 use Rattle.classes.proofs.Reaching.{reaches_self}
-use Rattle.open_laws.specs.Open.{top_left}
+use Rattle.open_laws.specs.Open.{top_left, IsBefore}
 use Rattle.islands.specs.Parts.{IsMeetingAt, AreParts}
 use Rattle.board_language.specs.Board.{Board}
 use Rattle.fill_rules.specs.Tasks.{zone_at}
 use Rattle.fill_rules.specs.Reliefs.{brush_radius}
-use Rattle.fill_rules.specs.Fill.{IsLinked, IsBefore, fill_of}
+use Rattle.fill_rules.specs.Fill.{IsLinked, fill_of}
 use Rattle.fills.specs.Fills.{brushed}
 use Rattle.components.specs.Cells.{AreCells, IsAllowedAt, IsInCell, pieces_of}
 use Rattle.components.specs.Laws.{IsBeginning, FirstLaw}

@@ -6,7 +6,7 @@ use Rattle.plane.specs.Plane.{Bounds}
 use Rattle.grid_num.specs.declared.Point.{Point}
 use Rattle.classes.proofs.Reaching.{least_one}
 use Rattle.grid_sets.specs.Points.{HasPoint}
-use Rattle.open_laws.specs.Open.{top_left}
+use Rattle.open_laws.specs.Open.{top_left, IsBefore}
 use Rattle.islands.specs.Parts.{AreParts}
 use Rattle.islands.specs.Held.{IsHeld}
 use Rattle.islands.specs.Inside.{IsWithinEdges}
@@ -15,11 +15,11 @@ use Rattle.board_language.specs.declared.IslandMode.TheVariants.{Remove, Keep, B
 use Rattle.board_language.specs.Board.{Board}
 use Rattle.fill_rules.specs.Tasks.{zone_at, layer_at}
 use Rattle.fill_rules.specs.Anchors.{anchors_of}
-use Rattle.fill_rules.specs.Fill.{Fills, IsLinked, IsBefore, IsAnchored, IsIslandPoint, IsSpared, IsKept, fill_of}
+use Rattle.fill_rules.specs.Fill.{Fills, IsLinked, IsAnchored, IsIslandPoint, IsSpared, IsKept, fill_of}
 use Rattle.fill_rules.proofs.Spared.{count_alike}
 use Rattle.components.specs.Cells.{AreCells, IsAllowedAt, IsInCell, pieces_of}
-use Rattle.components.specs.Kept.{AreLive, labelled, IsSparedPart, IsKeptCell}
-use Rattle.components.specs.Laws.{IsBeginning, KeptLaw}
+use Rattle.components.specs.Kept.{AreLive, with_label, IsSparedPart, IsKeptCell}
+use Rattle.components.specs.Laws.{IsBeginning, CentreKeptLaw}
 use Rattle.components.proofs.Places.{one_at}
 use Rattle.components.proofs.Components.{IsWide, sound_wide, in_allowed}
 use Rattle.components.proofs.First.{beginning}
@@ -63,15 +63,15 @@ module _ (b : Board) (i : ℕ) (s : IsWide b i) (cells : List Bounds) (a : AreCe
 
   stays_to : IsAnchored b (fill_of b) i c ⊎ IsSpared b (fill_of b) i c (zone_at b i).islands
       → IsHeld (pieces_of b i cells) (anchors_of b (zone_at b i) (layer_at b i)) live k
-      ⊎ IsSparedPart (labelled labels (get_or labels k 0) (pieces_of b i cells)) (zone_at b i).islands
+      ⊎ IsSparedPart (with_label labels (get_or labels k 0) (pieces_of b i cells)) (zone_at b i).islands
   stays_to (inl t) = inl ((part_held b i s cells a live l k c h).0 t)
-  stays_to (inr t) = inr (spared_part b (fill_of b) i c (labelled labels (get_or labels k 0) (pieces_of b i cells)) (zone_at b i).islands (part_point b i s cells a labels p k c h) t)
+  stays_to (inr t) = inr (spared_part b (fill_of b) i c (with_label labels (get_or labels k 0) (pieces_of b i cells)) (zone_at b i).islands (part_point b i s cells a labels p k c h) t)
 
   to_stays : IsHeld (pieces_of b i cells) (anchors_of b (zone_at b i) (layer_at b i)) live k
-      ⊎ IsSparedPart (labelled labels (get_or labels k 0) (pieces_of b i cells)) (zone_at b i).islands
+      ⊎ IsSparedPart (with_label labels (get_or labels k 0) (pieces_of b i cells)) (zone_at b i).islands
       → IsAnchored b (fill_of b) i c ⊎ IsSpared b (fill_of b) i c (zone_at b i).islands
   to_stays (inl t) = inl ((part_held b i s cells a live l k c h).1 t)
-  to_stays (inr t) = inr (part_spared b (fill_of b) i c (labelled labels (get_or labels k 0) (pieces_of b i cells)) (zone_at b i).islands (part_point b i s cells a labels p k c h) t)
+  to_stays (inr t) = inr (part_spared b (fill_of b) i c (with_label labels (get_or labels k 0) (pieces_of b i cells)) (zone_at b i).islands (part_point b i s cells a labels p k c h) t)
 
   kept_to : IsKept b (fill_of b) i c → IsKeptCell b i cells labels live k
   kept_to t =
@@ -97,5 +97,5 @@ module _ (b : Board) (i : ℕ) (s : IsWide b i) (cells : List Bounds) (a : AreCe
   pub cell_kept : IsKept b (fill_of b) i c ↔ IsKeptCell b i cells labels live k
   cell_kept = (kept_to, to_kept)
 
-pub kept : KeptLaw
+pub kept : CentreKeptLaw
 kept b s i cells a labels p live l k c h = cell_kept b i (sound_wide b s i) cells a labels p live l k c h

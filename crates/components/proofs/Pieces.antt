@@ -13,7 +13,7 @@ use Rattle.fills.specs.Fills.{IsKeptAt, IsCounted, AreThose, ArePieces}
 use Rattle.fills.proofs.Points.{those_hold, held_chosen}
 use Rattle.components.specs.Cells.{AreCells, IsAllowedAt, IsInCell, pieces_of}
 use Rattle.components.specs.Kept.{AreLive, flagged, IsMet}
-use Rattle.components.specs.PieceLaws.{AreKept, KeptCellsLaw, KeptMeetsLaw, CountedLaw, AreCounted, PiecesLaw, FillLaw}
+use Rattle.components.specs.PieceLaws.{AreKept, KeptCellsLaw, KeptMeetsLaw, CountedLaw, AreCounted, PiecesLaw, CellsFillLaw}
 use Rattle.components.proofs.Places.{point_of}
 use Rattle.components.proofs.Flagged.{flagged_from, flagged_to, flagged_tight}
 use Rattle.components.proofs.Components.{IsWide, sound_wide, cells_tight, allowed_in}
@@ -100,5 +100,5 @@ module _ (b : Board) (i : ℕ) (s : IsWide b i) (cells : List Bounds) (a : AreCe
 pub pieces : PiecesLaw
 pieces b s i cells a flags f final counted h g = are_pieces b i (sound_wide b s i) cells a flags f final counted h g
 
-pub fill : FillLaw
+pub fill : CellsFillLaw
 fill b s i cells a flags f final counted parts h g p = record { task = refl; pieces = are_pieces b i (sound_wide b s i) cells a flags f final counted h g; parts = p }

@@ -15,8 +15,8 @@ use Rattle.fill_rules.specs.Fill.{brush_at, IsIslandPoint, fill_of}
 use Rattle.fill_rules.proofs.Spared.{one_count}
 use Rattle.fills.specs.Fills.{brushed}
 use Rattle.components.specs.Cells.{AreCells, IsAllowedAt, IsInCell, pieces_of}
-use Rattle.components.specs.Kept.{labelled}
-use Rattle.components.specs.Laws.{SizeLaw, CountLaw}
+use Rattle.components.specs.Kept.{with_label}
+use Rattle.components.specs.Laws.{PartPointsLaw, SparedCountLaw}
 use Rattle.components.proofs.Places.{at_in, map_at, at_map}
 use Rattle.components.proofs.Brushes.{laid, to_piece, from_piece}
 use Rattle.components.proofs.Flagged.{flagged_from, flagged_to, label_from, label_to}
@@ -34,7 +34,7 @@ grid_from_piece r o x y wide t h =
 
 module _ (b : Board) (i : ℕ) (s : IsWide b i) (cells : List Bounds) (a : AreCells (IsAllowedAt b i) cells) (labels : List ℕ)
     (p : AreParts (pieces_of b i cells) labels) (k : ℕ) (c : Point) (h : IsInCell cells k c) (x y : ℤ) where
-  point_to : IsIslandPoint b (fill_of b) i c x y → HasPoint (labelled labels (get_or labels k 0) (pieces_of b i cells)) x y
+  point_to : IsIslandPoint b (fill_of b) i c x y → HasPoint (with_label labels (get_or labels k 0) (pieces_of b i cells)) x y
   unfolding brush_at
   point_to (d, t, w) =
       let r = brush_radius (zone_at b i) in
@@ -46,7 +46,7 @@ module _ (b : Board) (i : ℕ) (s : IsWide b i) (cells : List Bounds) (a : AreCe
       (label_to labels (get_or labels k 0) m.0 (let e = p.each in omega (arith, in_m, e)) (sym one))
       (record { cell = brushed r g.cell; there = map_at (brushed r) cells m.0 g.cell g.there; within = grid_to_piece r g.cell d x y g.within w })
 
-  to_point : HasPoint (labelled labels (get_or labels k 0) (pieces_of b i cells)) x y → IsIslandPoint b (fill_of b) i c x y
+  to_point : HasPoint (with_label labels (get_or labels k 0) (pieces_of b i cells)) x y → IsIslandPoint b (fill_of b) i c x y
   unfolding brush_at
   to_point q =
       let r = brush_radius (zone_at b i) in
@@ -59,13 +59,13 @@ module _ (b : Board) (i : ℕ) (s : IsWide b i) (cells : List Bounds) (a : AreCe
       let one = (parts_same (pieces_of b i cells) labels p k m.0 (piece_within b i cells k c h) in_m).0 (sym (label_from labels (get_or labels k 0) m.0 m.1.flag)) in
       (d.0, part_component b i cells a s c d.0 k m.0 h (record { cell = cell.0; there = cell.1; within = d.1 }) one, d.2)
 
-  pub part_point : IsIslandPoint b (fill_of b) i c x y ↔ HasPoint (labelled labels (get_or labels k 0) (pieces_of b i cells)) x y
+  pub part_point : IsIslandPoint b (fill_of b) i c x y ↔ HasPoint (with_label labels (get_or labels k 0) (pieces_of b i cells)) x y
   part_point = (point_to, to_point)
 
-pub size : SizeLaw
+pub size : PartPointsLaw
 size b s i cells a labels p k c h x y = part_point b i (sound_wide b s i) cells a labels p k c h x y
 
 -- ---- one count
-pub count : CountLaw
+pub count : SparedCountLaw
 count os points area h =
     (λ (more, g, e). subst (λ n. (1000000 * area) ≤ (4 * n)) (one_count (HasPoint os) more points g h) e, λ e. (points, h, e))

@@ -27,8 +27,8 @@ flagged (f ∷ fs) [] = []
 flagged (f ∷ fs) (o ∷ os) = cond f (o ∷ flagged fs os) (flagged fs os)
 
 -- the octagons at the places that have the label
-abbrev pub labelled : List ℕ → ℕ → List Bounds → List Bounds
-labelled labels label os = flagged (map (λ m. m == label) labels) os
+abbrev pub with_label : List ℕ → ℕ → List Bounds → List Bounds
+with_label labels label os = flagged (map (λ m. m == label) labels) os
 
 -- the mode lets a part of these octagons stay, though nothing holds it: where it says so by the area, each grid point of
 -- the octagons counts once, as 4 square nanometres, and the area is in millionths of a square millimetre
@@ -44,7 +44,7 @@ pub record IsStaying (edges : List Edge) (anchors : List Copper) (live : List Bo
   pub first : Bounds
   pub there : slice_get cells (get_or labels k 0) ≡ Some first
   pub inside : IsWithinEdges edges (top_left first)
-  pub stays : IsHeld pieces anchors live k ⊎ IsSparedPart (labelled labels (get_or labels k 0) pieces) mode
+  pub stays : IsHeld pieces anchors live k ⊎ IsSparedPart (with_label labels (get_or labels k 0) pieces) mode
 
 -- cell k of the task of rank i is kept: it stays by the board's edges, the task's anchors and the zone's mode
 abbrev pub IsKeptCell : Board → ℕ → List Bounds → List ℕ → List Bounds → ℕ → Type 0

@@ -4,17 +4,17 @@ use Rattle.plane.specs.Plane.{Bounds}
 use Rattle.grid_num.specs.declared.Point.{Point}
 use Rattle.classes.specs.Classes.{Reaches, IsLeastOf}
 use Rattle.grid_sets.specs.Points.{HasPoint, IsCount}
-use Rattle.open_laws.specs.Open.{top_left}
+use Rattle.open_laws.specs.Open.{top_left, IsBefore}
 use Rattle.islands.specs.Parts.{AreParts, IsOnePart}
 use Rattle.islands.specs.Held.{IsHeld}
 use Rattle.board_language.specs.declared.IslandMode.TheVariants.{Below}
 use Rattle.board_language.specs.Board.{Board}
 use Rattle.board_language.specs.Facts.{IsSoundBoard}
 use Rattle.fill_rules.specs.Tasks.{zone_at, layer_at}
-use Rattle.fill_rules.specs.Fill.{IsAllowed, IsLinked, IsBefore, IsAnchored, IsIslandPoint, IsKept, fill_of}
+use Rattle.fill_rules.specs.Fill.{IsAllowed, IsLinked, IsAnchored, IsIslandPoint, IsKept, fill_of}
 use Rattle.fill_rules.specs.Anchors.{anchors_of}
 use Rattle.components.specs.Cells.{AreCells, IsAllowedAt, IsInCell, pieces_of}
-use Rattle.components.specs.Kept.{AreLive, labelled, IsSparedPart, IsKeptCell}
+use Rattle.components.specs.Kept.{AreLive, with_label, IsSparedPart, IsKeptCell}
 
 -- it holds of each sound board, each rank, and the cells of the allowed centres there
 abbrev pub OfCells : (Board → ℕ → List Bounds → Type 0) → Type 0
@@ -51,21 +51,21 @@ AnchoredLaw =
     → IsAnchored b (fill_of b) i c ↔ IsHeld (pieces_of b i cells) (anchors_of b (zone_at b i) (layer_at b i)) live k)
 
 -- the brush takes a grid point at the component's centres exactly where one of the pieces with the component's label has it
-abbrev pub SizeLaw : Type 0
-SizeLaw =
+abbrev pub PartPointsLaw : Type 0
+PartPointsLaw =
     OfCells (λ b i cells. (labels : List ℕ) → AreParts (pieces_of b i cells) labels
     → (k : ℕ) (c : Point) → IsInCell cells k c → (x y : ℤ)
-    → IsIslandPoint b (fill_of b) i c x y ↔ HasPoint (labelled labels (get_or labels k 0) (pieces_of b i cells)) x y)
+    → IsIslandPoint b (fill_of b) i c x y ↔ HasPoint (with_label labels (get_or labels k 0) (pieces_of b i cells)) x y)
 
 -- and one count of these grid points tells whether a mode that goes by the area spares the part
-abbrev pub CountLaw : Type 0
-CountLaw =
+abbrev pub SparedCountLaw : Type 0
+SparedCountLaw =
     (os : List Bounds) (points area : ℕ) → IsCount (HasPoint os) points
     → IsSparedPart os (Below area) ↔ ((1000000 * area) ≤ (4 * points))
 
 -- a centre is kept exactly where its cell is
-abbrev pub KeptLaw : Type 0
-KeptLaw =
+abbrev pub CentreKeptLaw : Type 0
+CentreKeptLaw =
     OfCells (λ b i cells. (labels : List ℕ) → AreParts (pieces_of b i cells) labels
     → (live : List Bounds) → AreLive b i live → (k : ℕ) (c : Point) → IsInCell cells k c
     → IsKept b (fill_of b) i c ↔ IsKeptCell b i cells labels live k)

@@ -62,8 +62,8 @@ PiecesLaw =
     → AreCounted b i (flagged flags cells) counted → ArePieces b i (pieces_of b i final ++ counted) (length counted))
 
 -- and with the parts that they make they are its fill
-abbrev pub FillLaw : Type 0
-FillLaw =
+abbrev pub CellsFillLaw : Type 0
+CellsFillLaw =
     OfKept (λ b i cells flags. (final counted : List Bounds) (parts : List ℕ) → AreCells (HasPoint (flagged flags cells)) final
     → AreCounted b i (flagged flags cells) counted → AreParts (pieces_of b i final ++ counted) parts
     → IsFillOf b i (record { task = task_at b i; pieces = pieces_of b i final ++ counted; spokes = length counted; parts = parts }))

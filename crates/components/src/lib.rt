@@ -3,8 +3,8 @@
 //! A cell is an octagon of allowed centres, in units of the grid (2 nm); its piece is what the brush covers at them.
 #![tactic(auto)]
 
-ghost use Rattle.components.specs.Laws.{CentresLaw, ComponentsLaw, FirstLaw, AnchoredLaw, SizeLaw, CountLaw, KeptLaw};
-ghost use Rattle.components.specs.PieceLaws.{MeetsLaw, KeptMeetsLaw, KeptCellsLaw, CountedLaw, PiecesLaw, FillLaw};
+ghost use Rattle.components.specs.Laws.{CentresLaw, ComponentsLaw, FirstLaw, AnchoredLaw, PartPointsLaw, SparedCountLaw, CentreKeptLaw};
+ghost use Rattle.components.specs.PieceLaws.{MeetsLaw, KeptMeetsLaw, KeptCellsLaw, CountedLaw, PiecesLaw, CellsFillLaw};
 
 /// The allowed centres are the grid points of the cells, and two of them are in one component exactly where the pieces of
 /// their cells hang together. So cells whose pieces have one label are a component.
@@ -27,13 +27,13 @@ pub fn anchored_law()
 /// The grid points that the brush takes at a component's centres are those of its pieces, so one number counts both, and
 /// tells whether the component is large enough to stay.
 pub fn size_law()
-    ensures points { SizeLaw }
-    ensures count { CountLaw }
+    ensures points { PartPointsLaw }
+    ensures count { SparedCountLaw }
 {}
 
 /// An allowed centre is kept exactly where its cell is: all centres of a cell are kept, or none is.
 pub fn kept_law()
-    ensures { KeptLaw }
+    ensures { CentreKeptLaw }
 {}
 
 /// An octagon meets the brush at some allowed centre exactly where it meets the piece of a cell, and the brush at some kept
@@ -50,5 +50,5 @@ pub fn pieces_law()
     ensures centres { KeptCellsLaw }
     ensures spokes { CountedLaw }
     ensures pieces { PiecesLaw }
-    ensures fill { FillLaw }
+    ensures fill { CellsFillLaw }
 {}

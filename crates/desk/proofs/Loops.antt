@@ -1,6 +1,6 @@
 -- The steps of the loops, over plain values.
 use Rattle.std.proofs.Common.{◌≡◌, ℕ, ◌+◌, ◌≤◌, List, ◌++◌, length, take, drop, sym, ◌∙◌, ap, subst, arith, length-append, length-take, length-drop, take-add, append_assoc}
-use Rattle.desk.specs.Seen.{Seen, Gives, with_file, appended, with_complained}
+use Rattle.desk.specs.Seen.{Seen, Gives, with_file, appended, with_said, with_complained}
 use Rattle.desk.proofs.Files.{appended-with_file}
 
 -- what was read is longer by a piece
@@ -19,6 +19,12 @@ writes_more name bytes piece given n s p =
     appended-with_file name (take given bytes) (take n piece) s
     ∙ ap (λ xs. with_file name (take given bytes ++ xs) s) p
     ∙ ap (λ xs. with_file name xs s) (sym (take-add given n bytes))
+
+-- a piece was said
+pub says_more : (bytes piece : List ℕ) (given n : ℕ) (s : Seen) → take n piece ≡ take n (drop given bytes) → with_said (take n piece) (with_said (take given bytes) s) ≡ with_said (take (given + n) bytes) s
+says_more bytes piece given n s p =
+    ap (λ xs. record { files = s.files; said = xs; complained = s.complained })
+    (append_assoc s.said (take given bytes) (take n piece) ∙ ap (λ xs. s.said ++ xs) (ap (λ xs. take given bytes ++ xs) p ∙ sym (take-add given n bytes)))
 
 -- a piece was complained
 pub complains_more : (bytes piece : List ℕ) (given n : ℕ) (s : Seen) → take n piece ≡ take n (drop given bytes) → with_complained (take n piece) (with_complained (take given bytes) s) ≡ with_complained (take (given + n) bytes) s

@@ -1,6 +1,6 @@
 //! The outside: files by name, standard output and standard error, with counts of their faults.
 //! The layer above calls a `Desk` and may use what it tells, its counts and its room; `MemoryDesk`, `NeverFails` and
-//! `RealDesk` are the three kinds; `read_all`, `write_all` and `complain_all` are for whole files and lines. All lengths and
+//! `RealDesk` are the three kinds; `read_all`, `write_all`, `say_all` and `complain_all` are for whole files and lines. All lengths and
 //! places are in bytes.
 #![tactic(auto)]
 
@@ -21,7 +21,7 @@ mod whole_files;
 pub use memory_desk::MemoryDesk;
 pub use never_fails::NeverFails;
 pub use real::RealDesk;
-pub use whole_files::{MOST, ReadStop, complain_all, read_all, write_all};
+pub use whole_files::{MOST, ReadStop, complain_all, read_all, say_all, write_all};
 
 /// A call of a desk failed.
 #[derive(Clone, Copy, Debug, PartialEq, Eq)]

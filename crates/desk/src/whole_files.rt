@@ -1,10 +1,10 @@
-// Whole files over a desk: reading one, making one, and complaining of one line. What is told of the contents before and after
+// Whole files over a desk: reading one, making one, saying many lines, and complaining of one. What is told of the contents before and after
 // stands in one clause a call, beside the count that tells a fault.
 ghost use Rattle.std.specs.Prelude.{◌≡◌, ◌+◌, ◌<◌, ◌≤◌, ℕ, length, take, drop, Some, IfOk, IfErr, OnOk, IsErrOf};
-ghost use Rattle.desk.specs.Seen.{Told, content, with_file, with_complained};
-ghost use Rattle.desk.specs.Faults.{Rose, OnlyReading, OnlyWriting, OnlyComplaining};
+ghost use Rattle.desk.specs.Seen.{Told, content, with_file, with_said, with_complained};
+ghost use Rattle.desk.specs.Faults.{Rose, OnlyReading, OnlyWriting, OnlySaying, OnlyComplaining};
 ghost use Rattle.desk.specs.Room.{cost_of, HasRoomTold, Spends};
-ghost use Rattle.desk.specs.Whole.{IsCut, IsComplained};
+ghost use Rattle.desk.specs.Whole.{IsCut, IsSaidShort, IsComplained};
 
 use crate::{Desk, Failed};
 use std::alloc::{AllocError, Global};
@@ -111,6 +111,28 @@ pub fn write_all<D: Desk>(name: &str, bytes: &[u8], desk: &mut D) -> Result<(), 
             Ok(0) => return Err(given as u64),
             Ok(count) => given += count,
             Err(_) => return Err(given as u64),
+        }
+    }
+    Ok(())
+}
+
+/// Says these bytes. An `Err` tells how many of them were said.
+pub fn say_all<D: Desk>(bytes: &[u8], desk: &mut D) -> Result<(), u64>
+    requires { HasRoomTold (D.room desk.old) (length bytes.now) }
+    ensures ok { OnOk result
+        (Told (D.seen desk.old) (λ s. D.seen desk.new ≡ Some (with_said bytes.now s))) }
+    ensures short { IfErr result (λ given. Told (D.seen desk.old)
+        (λ s. IsSaidShort bytes.now given s (D.seen desk.new))) }
+    ensures failed { IfErr result
+        (λ given. Rose (D.counts desk.old).saying (D.counts desk.new).saying) }
+    ensures spent { Spends (D.room desk.old) (D.room desk.new) (length bytes.now) }
+    ensures others { OnlySaying (D.counts desk.old) (D.counts desk.new) }
+{
+    let mut given = 0;
+    'sayings: while given < bytes.len() {
+        match desk.say(piece_at(bytes, given)) {
+            Ok(0) | Err(_) => return Err(given as u64),
+            Ok(count) => given += count,
         }
     }
     Ok(())

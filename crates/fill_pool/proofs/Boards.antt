@@ -11,7 +11,8 @@ use Rattle.pool_rules.specs.declared.Slot.TheVariants.{Waiting, Held}
 use Rattle.pool_rules.specs.Runs.{PoolState, slot_at, opening, pool_step, run, IsReady, IsTake, IsEvent, IsLawful}
 use Rattle.pool_rules.specs.Laws.{IsUpward}
 use Rattle.pool_rules.proofs.Runs.{waiting_within, held_within, lawful_more, lawful_parts, length_run, length-replicate, good_short, held_done, lawful_good}
-use Rattle.fill_pool.specs.Runs.{count_of, IsReachOf, state_of, IsRunOf, IsHalted, IsReadyIn, IsNext, IsHeld, IsTableOf}
+use Rattle.fill_pool.specs.Runs.{count_of, IsReachOf, state_of, IsRunOf, IsHalted, IsReadyIn, IsNext, IsHeldBy}
+use Rattle.fill_pool.specs.Inner.Tables.{IsTableOf}
 use Rattle.fill_pool.specs.Laws.{BoardRunsLaw, FollowsLaw, AboveLaw}
 
 -- ---- members of a list
@@ -140,10 +141,10 @@ last_event b es e (reach, r, l) = (reach, r, (lawful_parts reach (opening (count
 pub take_follows : (b : Board) (es : List PoolEvent) (w i : ℕ) → IsRunOf b es → IsNext b es i → IsRunOf b (es ++ Take w i ∷ [])
 take_follows b es w i h n = more b es (Take w i) h (λ reach r. next_take b reach r es i n)
 
-pub finish_follows : (b : Board) (es : List PoolEvent) (w i : ℕ) → IsRunOf b es → IsHeld b es w i → IsRunOf b (es ++ Finish w i ∷ [])
+pub finish_follows : (b : Board) (es : List PoolEvent) (w i : ℕ) → IsRunOf b es → IsHeldBy b es w i → IsRunOf b (es ++ Finish w i ∷ [])
 finish_follows b es w i h n = more b es (Finish w i) h (λ reach r. n)
 
-pub back_follows : (b : Board) (es : List PoolEvent) (w i : ℕ) → IsRunOf b es → IsHeld b es w i → IsRunOf b (es ++ Back w i ∷ [])
+pub back_follows : (b : Board) (es : List PoolEvent) (w i : ℕ) → IsRunOf b es → IsHeldBy b es w i → IsRunOf b (es ++ Back w i ∷ [])
 back_follows b es w i h n = more b es (Back w i) h (λ reach r. n)
 
 pub follows : FollowsLaw

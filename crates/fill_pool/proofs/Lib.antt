@@ -3,3 +3,6 @@ pub mod Boards
 pub mod Machines
 pub mod Pools
 pub mod Aboves
+pub mod Tables
+pub mod Counts
+pub mod Ranks

@@ -10,10 +10,11 @@ use Rattle.pool_rules.specs.declared.Slot.{Slot}
 use Rattle.pool_rules.specs.declared.Slot.TheVariants.{Waiting, Held, Finished, Returned}
 use Rattle.pool_rules.specs.Runs.{PoolState, slot_at, opening, pool_step, IsLawful}
 use Rattle.pool_rules.proofs.Runs.{waiting_within, run_more}
-use Rattle.fill_pool.specs.Slots.{IsReadyRow}
-use Rattle.fill_pool.specs.Runs.{count_of, state_of, IsRunOf, IsHalted, IsReadyIn, IsNext, NoneReady, IsHeld, AllFinished, NoneHeld, IsTableOf}
+use Rattle.fill_pool.specs.Inner.Slots.{IsReadyRow}
+use Rattle.fill_pool.specs.Runs.{count_of, state_of, IsRunOf, IsHalted, IsReadyIn, IsNext, NoneReady, IsHeldBy, AllFinished, NoneHeld}
 use Rattle.fills.specs.Above.{AreReaching}
-use Rattle.fill_pool.specs.Fields.{IsMachine}
+use Rattle.fill_pool.specs.Inner.Tables.{IsTableOf}
+use Rattle.fill_pool.specs.Inner.Fields.{IsMachine}
 use Rattle.fill_pool.proofs.Boards.{all_one_of, one_of_get, table_reach, slots_size, waiting_in, halted_is, calm_is, take_follows, finish_follows, back_follows, run_short, reach_of}
 
 abbrev state : List Slot → Bool → PoolState
@@ -126,7 +127,7 @@ module _ (b : Board) (slots : List Slot) (table : List (List ℕ)) (es : List Po
   )
 
 -- ---- at the opening
-pub taken_holds : (b : Board) (es : List PoolEvent) (v i : ℕ) → IsNext b es i → IsHeld b (es ++ Take v i ∷ []) v i
+pub taken_holds : (b : Board) (es : List PoolEvent) (v i : ℕ) → IsNext b es i → IsHeldBy b (es ++ Take v i ∷ []) v i
 taken_holds b es v i n =
     ap (λ (s : PoolState). slot_at s i) (run_more (opening (count_of b)) es (Take v i))
     ∙ get_or-set_same (state_of b es).slots i (Held v) Finished (waiting_within (state_of b es).slots i n.ready.waiting)

@@ -15,11 +15,11 @@ use Rattle.pool_rules.specs.declared.Slot.TheVariants.{Waiting, Held, Finished, 
 use Rattle.pool_rules.specs.Runs.{PoolState, slot_at, opening, pool_step}
 use Rattle.pool_rules.proofs.Runs.{waiting_within, held_within, run_more, get_or-replicate}
 use Rattle.fill_rules.specs.Made.{Made, no_fill}
-use Rattle.fills.specs.Fills.{IsFillOf}
-use Rattle.fill_pool.specs.Runs.{count_of, state_of, IsRunOf, IsNext, IsHeld, AllFinished}
+use Rattle.fills.specs.Fills.{IsFillOf, AreBoardFills}
+use Rattle.fill_pool.specs.Runs.{count_of, state_of, IsRunOf, IsNext, IsHeldBy, AllFinished}
 use Rattle.fills.specs.Above.{AreReaching, AreFillsOfTasks, AreFillsAbove}
-use Rattle.fill_pool.specs.Slots.{IsFull, made_in_slot, made_at}
-use Rattle.fill_pool.specs.Fields.{HasFill, IsPool}
+use Rattle.fill_pool.specs.Inner.Slots.{IsFull, made_in_slot, made_at}
+use Rattle.fill_pool.specs.Inner.Fields.{HasFill, IsPool}
 use Rattle.fill_pool.proofs.Boards.{one_of_get, held_in, above_done}
 
 -- ---- slots that hold fills
@@ -64,10 +64,10 @@ module _ (b : Board) (es : List PoolEvent) (tasks : List Task) (fills : List (Op
   pub pool_take : (v i : ℕ) → IsNext b es i → IsPool b (es ++ Take v i ∷ []) tasks fills all cap
   pool_take v i n = kept (Take v i) (λ j f. before_set (state_of b es).slots i j (Held v) (waiting_within (state_of b es).slots i n.ready.waiting) (held_not v) f)
 
-  pub pool_back : (v i : ℕ) → IsHeld b es v i → IsPool b (es ++ Back v i ∷ []) tasks fills all cap
+  pub pool_back : (v i : ℕ) → IsHeldBy b es v i → IsPool b (es ++ Back v i ∷ []) tasks fills all cap
   pool_back v i h = kept (Back v i) (λ j f. before_set (state_of b es).slots i j Returned (held_within (state_of b es).slots i v h) returned_not f)
 
-  pub pool_finish : (v i : ℕ) (f : Made) → IsHeld b es v i → IsFillOf b i f → IsPool b (es ++ Finish v i ∷ []) tasks (set fills i (Some f)) all cap
+  pub pool_finish : (v i : ℕ) (f : Made) → IsHeldBy b es v i → IsFillOf b i f → IsPool b (es ++ Finish v i ∷ []) tasks (set fills i (Some f)) all cap
   pool_finish v i f h is =
       let m : i < length fills = omega (arith, held_in b es i v h, p.sized) in
       record {
@@ -89,22 +89,22 @@ module _ (b : Board) (es : List PoolEvent) (tasks : List Task) (fills : List (Op
   pub after_none : (new : List PoolEvent) → new ≡ es → IsPool b new tasks fills all cap
   after_none new e = subst (λ (t : List PoolEvent). IsPool b t tasks fills all cap) (sym e) p
 
-  pub after_back : (r : Bool) (v i : ℕ) (new : List PoolEvent) → (IsTrue r ↔ IsHeld b es v i) → (IsTrue r → new ≡ es ++ Back v i ∷ []) → (IsFalse r → new ≡ es) → IsPool b new tasks fills all cap
+  pub after_back : (r : Bool) (v i : ℕ) (new : List PoolEvent) → (IsTrue r ↔ IsHeldBy b es v i) → (IsTrue r → new ≡ es ++ Back v i ∷ []) → (IsFalse r → new ≡ es) → IsPool b new tasks fills all cap
   after_back true v i new h e s = subst (λ (t : List PoolEvent). IsPool b t tasks fills all cap) (sym (e refl)) (pool_back v i (h.0 refl))
   after_back false v i new h e s = after_none new (s refl)
 
-  pub after_finish : (v i : ℕ) (f : Made) (new : List PoolEvent) (slots : List (Option Made)) → IsHeld b es v i → IsFillOf b i f → new ≡ es ++ Finish v i ∷ [] → slots ≡ set fills i (Some f)
+  pub after_finish : (v i : ℕ) (f : Made) (new : List PoolEvent) (slots : List (Option Made)) → IsHeldBy b es v i → IsFillOf b i f → new ≡ es ++ Finish v i ∷ [] → slots ≡ set fills i (Some f)
       → IsPool b new tasks slots all cap
   after_finish v i f new slots h is e s =
       subst (λ (t : List PoolEvent). IsPool b t tasks slots all cap) (sym e) (subst (λ (os : List (Option Made)). IsPool b (es ++ Finish v i ∷ []) tasks os all cap) (sym s) (pool_finish v i f h is))
 
   -- ---- the fills above a task that is held
-  pub above_has : IsRunOf b es → (v i : ℕ) → IsHeld b es v i → (js : List ℕ) → AreReaching b i js → (j : ℕ) → IsOneOf j js → HasFill b j (get_or fills j None)
+  pub above_has : IsRunOf b es → (v i : ℕ) → IsHeldBy b es v i → (js : List ℕ) → AreReaching b i js → (j : ℕ) → IsOneOf j js → HasFill b j (get_or fills j None)
   above_has lawful v i h js r j o =
       let reaching = (r.same j).0 o in
       p.right j (above_done b es lawful v i h j reaching) (omega (arith, reaching.above, held_in b es i v h))
 
-  pub above_full : IsRunOf b es → (v i : ℕ) → IsHeld b es v i → (js : List ℕ) → AreReaching b i js → All (λ (j : ℕ). IsFull (get_or fills j None)) js
+  pub above_full : IsRunOf b es → (v i : ℕ) → IsHeldBy b es v i → (js : List ℕ) → AreReaching b i js → All (λ (j : ℕ). IsFull (get_or fills j None)) js
   above_full lawful v i h js r = λ k d l. full_is b (get_or js k d) (get_or fills (get_or js k d) None) (above_has lawful v i h js r (get_or js k d) (one_of_get js k d l))
 
   row_fills : (js : List ℕ) → All (λ (j : ℕ). HasFill b j (get_or fills j None)) js → AreFillsOfTasks b js (map (made_at fills) js)
@@ -112,7 +112,7 @@ module _ (b : Board) (es : List PoolEvent) (tasks : List Task) (fills : List (Op
   row_fills (j ∷ js) h =
       (made_is b j (get_or fills j None) (All-head (λ (k : ℕ). HasFill b k (get_or fills k None)) j js h), row_fills js (All-tail (λ (k : ℕ). HasFill b k (get_or fills k None)) j js h))
 
-  pub above_fills : IsRunOf b es → (v i : ℕ) → IsHeld b es v i → (js : List ℕ) → AreReaching b i js → (out : List Made) → out ≡ map (made_at fills) js → AreFillsAbove b i out
+  pub above_fills : IsRunOf b es → (v i : ℕ) → IsHeldBy b es v i → (js : List ℕ) → AreReaching b i js → (out : List Made) → out ≡ map (made_at fills) js → AreFillsAbove b i out
   above_fills lawful v i h js r out e = record {
     tasks = js;
     reaching = r;
@@ -133,12 +133,16 @@ module _ (b : Board) (es : List PoolEvent) (tasks : List Task) (fills : List (Op
           get_or_any (x ∷ xs) zero d e l = refl
           get_or_any (x ∷ xs) (suc k) d e l = get_or_any xs k d e (omega (arith, l))
 
-  pub all_fills : AllFinished b es → (out : List Made) → map Some out ≡ fills → (i : ℕ) → i < count_of b → IsFillOf b i (get_or out i no_fill)
-  all_fills done out e i l =
-      let n : length out ≡ length fills = sym (length_some out) ∙ ap length e in
-      let m : i < length out = omega (arith, l, n, p.sized) in
-      let h : HasFill b i (get_or (map Some out) i None) = subst (λ (os : List (Option Made)). HasFill b i (get_or os i None)) (sym e) (p.right i (done i l) l) in
-      subst (HasFill b i) (get_or-map Some out i no_fill None m) h
+  pub all_fills : AllFinished b es → (out : List Made) → map Some out ≡ fills → AreBoardFills b out
+  all_fills done out e =
+      let n : length out ≡ count_of b = sym (length_some out) ∙ ap length e ∙ p.sized in
+      record {
+        count = n;
+        each = λ i l.
+            let m : i < count_of b = omega (arith, l, n) in
+            let h : HasFill b i (get_or (map Some out) i None) = subst (λ (os : List (Option Made)). HasFill b i (get_or os i None)) (sym e) (p.right i (done i m) m) in
+            subst (HasFill b i) (get_or-map Some out i no_fill None l) h;
+      }
     where
       length_some : (out : List Made) → length (map Some out) ≡ length out
       length_some [] = refl

@@ -6,7 +6,7 @@ use Rattle.std.proofs.lemmas.List.{get_or-map}
 use Rattle.pool_rules.specs.declared.Slot.{Slot}
 use Rattle.pool_rules.specs.declared.Slot.TheVariants.{Waiting, Finished}
 use Rattle.pool_rules.proofs.Runs.{waiting_within}
-use Rattle.fill_pool.specs.Slots.{IsReadyRow}
+use Rattle.fill_pool.specs.Inner.Slots.{IsReadyRow}
 
 pub ready_by : {X : Type 0} (f : X → List ℕ) (table : List X) (slots : List Slot) (i : ℕ) (x : X) → length table ≡ length slots
     → x ≡ get_or table i x → get_or slots i Finished ≡ Waiting → (r : Bool)

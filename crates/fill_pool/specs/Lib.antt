@@ -1,5 +1,3 @@
 pub mod Runs
-pub mod Slots
-pub mod Fields
 pub mod Laws
-pub mod Workers
+pub mod Inner

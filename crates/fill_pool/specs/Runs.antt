@@ -1,5 +1,5 @@
 -- What may happen in the pool of one board, in the board's own words: tasks by their rank, and which of them reach which.
-use Rattle.std.specs.Prelude.{◌≡◌, ◌↔◌, ℕ, ◌<◌, Bool, true, List, [], length, get_or}
+use Rattle.std.specs.Prelude.{◌≡◌, ◌↔◌, ℕ, ◌<◌, Bool, true, List, length}
 use Rattle.classes.specs.Classes.{IsOneOf}
 use Rattle.board_language.specs.Board.{Board}
 use Rattle.fill_rules.specs.Tasks.{Task, ranked}
@@ -8,9 +8,6 @@ use Rattle.pool_rules.specs.declared.PoolEvent.{PoolEvent}
 use Rattle.pool_rules.specs.declared.PoolEvent.TheVariants.{Back}
 use Rattle.pool_rules.specs.declared.Slot.TheVariants.{Waiting, Held, Finished}
 use Rattle.pool_rules.specs.Runs.{PoolState, slot_at, opening, run, IsLawful}
-use Rattle.fill_rules.specs.Made.{Made, no_fill}
-use Rattle.fills.specs.Fills.{IsFillOf}
-use Rattle.fills.specs.Above.{AreReaching}
 
 -- how many tasks a board has
 abbrev pub count_of : Board → ℕ
@@ -48,8 +45,8 @@ abbrev pub NoneReady : Board → List PoolEvent → Type 0
 NoneReady b events = (i : ℕ) → IsReadyIn b events i → ⊥
 
 -- the worker holds the task
-abbrev pub IsHeld : Board → List PoolEvent → ℕ → ℕ → Type 0
-IsHeld b events worker i = slot_at (state_of b events) i ≡ Held worker
+abbrev pub IsHeldBy : Board → List PoolEvent → ℕ → ℕ → Type 0
+IsHeldBy b events worker i = slot_at (state_of b events) i ≡ Held worker
 
 -- each task of the board is finished
 abbrev pub AllFinished : Board → List PoolEvent → Type 0
@@ -57,7 +54,7 @@ AllFinished b events = (i : ℕ) → i < count_of b → slot_at (state_of b even
 
 -- no worker holds any task
 abbrev pub NoneHeld : Board → List PoolEvent → Type 0
-NoneHeld b events = (i worker : ℕ) → IsHeld b events worker i → ⊥
+NoneHeld b events = (i worker : ℕ) → IsHeldBy b events worker i → ⊥
 
 -- ---- what a worker is handed
 
@@ -69,15 +66,4 @@ pub record Leave : Type 0 where
 
 -- the pool holds the ticket's number for the ticket's worker
 abbrev pub IsHolding : Board → List PoolEvent → Leave → Type 0
-IsHolding b events t = IsHeld b events t.worker t.number
-
--- ---- the fills of tasks
-
--- the list has the fill of each task of the board, in rank order
-abbrev pub HasEachFill : Board → List Made → Type 0
-HasEachFill b fills = (i : ℕ) → i < count_of b → IsFillOf b i (get_or fills i no_fill)
-
--- for each task of the board, the ranks of the tasks that reach it
-pub record IsTableOf (b : Board) (table : List (List ℕ)) : Type 0 where
-  pub rows : length table ≡ count_of b
-  pub each : (i : ℕ) → i < count_of b → AreReaching b i (get_or table i [])
+IsHolding b events t = IsHeldBy b events t.worker t.number

@@ -2,7 +2,7 @@
 ghost use Rattle.std.specs.Prelude.{◌≡◌, ℕ, ◌+◌, ◌≤◌, List, ◌++◌, length, get_or, map, Some, None, IfOk, vec_capacity};
 ghost use Rattle.std.specs.List.{All};
 ghost use Rattle.std.specs.Arc.{arc_value};
-ghost use Rattle.fill_pool.specs.Slots.{filled, IsFull, made_at};
+ghost use Rattle.fill_pool.specs.Inner.Slots.{filled, IsFull, made_at};
 
 use fills::Fill;
 use grid_num::Memory;
@@ -38,7 +38,8 @@ pub fn copy_row(
     into: &mut Vec<Arc<Fill>>,
 ) -> Result<(), Memory>
     requires { All (λ j. IsFull (get_or (map filled fills.now) j None)) row.now }
-    ensures { IfOk result (λ _. map arc_value into.new.items ≡ map arc_value into.old.items ++ map (made_at (map filled fills.now)) row.now) }
+    ensures { IfOk result (λ _. map arc_value into.new.items
+        ≡ map arc_value into.old.items ++ map (made_at (map filled fills.now)) row.now) }
 {
     'each: for j in row {
         let fill = Arc::try_clone(fill_at(fills, *j as usize))?;
@@ -51,7 +52,8 @@ pub fn copy_row(
 pub fn into_all(fills: Vec<Option<Arc<Fill>>>, all: Vec<Arc<Fill>>) -> Vec<Arc<Fill>>
     requires full { All IsFull (map filled fills.items) }
     requires room { length all.items + length fills.items ≤ vec_capacity all }
-    ensures { map Some (map arc_value result.items) ≡ map Some (map arc_value all.items) ++ map filled fills.items }
+    ensures { map Some (map arc_value result.items)
+        ≡ map Some (map arc_value all.items) ++ map filled fills.items }
 {
     let mut all = all;
     'each: for fill in fills {

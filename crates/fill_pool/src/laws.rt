@@ -1,5 +1,7 @@
 // What holds of every lawful run over a board's tasks.
-ghost use Rattle.fill_pool.specs.Laws.{BoardRunsLaw, FollowsLaw, AboveLaw, OneAboveLaw};
+ghost use Rattle.fill_pool.specs.Laws.{BoardRunsLaw, FollowsLaw, AboveLaw, OneAboveLaw, TicketFillLaw};
+
+use fill_rules::ranking_law;
 
 /// In every lawful run over a board's tasks, of any length and with any workers, a task is finished at most once, by a worker that
 /// took it, after all tasks that reach it; and it goes on while something isn't finished, nothing is held and nothing was
@@ -22,3 +24,11 @@ pub fn above_law()
 pub fn one_above_law()
     ensures { OneAboveLaw }
 {}
+
+/// The fills that the pool lists above a ticket's task are those that the fill of the task is made on, and what is then made is the
+/// fill that the pool asks for.
+pub fn ticket_law()
+    ensures { TicketFillLaw }
+{
+    ranking_law();
+}

@@ -1,7 +1,8 @@
 // How the tasks of a board stand, and all that happened, without the fills.
 ghost use Rattle.std.specs.Prelude.{◌≡◌, ◌⊎◌, ◌↔◌, ℕ, ◌<◌, ◌^◌, List, [], ◌∷◌, ◌++◌, length, map, IfSome, IfNone, IfOk, IsTrue, IsFalse, true};
 ghost use Rattle.pool_rules.specs.declared.PoolEvent.TheVariants.{Take, Finish, Back};
-ghost use Rattle.fill_pool.specs.Runs.{count_of, state_of, IsRunOf, IsHalted, IsNext, NoneReady, IsHeld, AllFinished, NoneHeld, IsTableOf};
+ghost use Rattle.fill_pool.specs.Runs.{count_of, state_of, IsRunOf, IsHalted, IsNext, NoneReady, IsHeldBy, AllFinished, NoneHeld};
+ghost use Rattle.fill_pool.specs.Inner.Tables.{IsTableOf};
 ghost use Rattle.fills.specs.Above.{AreReaching};
 
 use crate::Named;
@@ -24,13 +25,14 @@ pub struct Machine<N: Named> {
 impl<N: Named> Model for Machine<N> {
     ghost use Rattle.std.specs.Prelude.{List, map, vec_capacity};
     ghost use Rattle.pool_rules.specs.declared.PoolEvent.{PoolEvent};
-    ghost use Rattle.fill_pool.specs.Fields.{IsMachine};
+    ghost use Rattle.fill_pool.specs.Inner.Fields.{IsMachine};
 
     ghost Value = { List PoolEvent };
 
     ghost view = { λ m. m.history.items };
 
-    ghost invariant = { λ m. IsMachine N.board m.slots.items (map (λ v. v.items) m.table.items) m.history.items m.halted (vec_capacity m.history) };
+    ghost invariant = { λ m. IsMachine N.board m.slots.items (map (λ v. v.items) m.table.items)
+        m.history.items m.halted (vec_capacity m.history) };
 }
 
 impl<N: Named> Machine<N> {
@@ -56,7 +58,7 @@ impl<N: Named> Machine<N> {
     pub fn take(&mut self, worker: u32) -> Option<u32>
         ensures taken { IfSome result (λ i. self.new ≡ self.old ++ Take worker i ∷ []) }
         ensures next { IfSome result (λ i. IsNext N.board self.old i) }
-        ensures held { IfSome result (λ i. IsHeld N.board self.new worker i) }
+        ensures held { IfSome result (λ i. IsHeldBy N.board self.new worker i) }
         ensures in_range { IfSome result (λ i. i < count_of N.board) }
         ensures none { IfNone result (self.new ≡ self.old) }
         ensures closed { IfNone result (IsHalted self.old ⊎ NoneReady N.board self.old) }
@@ -79,7 +81,7 @@ impl<N: Named> Machine<N> {
 
     /// The worker finishes the task, where it holds it; whether it does.
     pub fn finish(&mut self, number: u32, worker: u32) -> bool
-        ensures held { IsTrue result ↔ IsHeld N.board self.old worker number }
+        ensures held { IsTrue result ↔ IsHeldBy N.board self.old worker number }
         ensures entered { IsTrue result → self.new ≡ self.old ++ Finish worker number ∷ [] }
         ensures stray { IsFalse result → self.new ≡ self.old }
     {
@@ -96,7 +98,7 @@ impl<N: Named> Machine<N> {
 
     /// The worker gives the task back, where it holds it; whether it does.
     pub fn give_back(&mut self, number: u32, worker: u32) -> bool
-        ensures held { IsTrue result ↔ IsHeld N.board self.old worker number }
+        ensures held { IsTrue result ↔ IsHeldBy N.board self.old worker number }
         ensures entered { IsTrue result → self.new ≡ self.old ++ Back worker number ∷ [] }
         ensures stray { IsFalse result → self.new ≡ self.old }
     {

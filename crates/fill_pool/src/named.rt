@@ -11,7 +11,7 @@ pub trait Named {
 
 // A caller picks this name for its own board.
 impl Named for Brand {
-    ghost use Rattle.fill_pool.specs.Slots.{no_board};
+    ghost use Rattle.fill_pool.specs.Inner.Slots.{no_board};
 
     ghost board = { no_board };
 }

@@ -3,15 +3,19 @@ ghost use Rattle.std.specs.Prelude.{◌≡◌, ◌⊎◌, ◌↔◌, ◌<◌, �
 ghost use Rattle.std.specs.Arc.{arc_value};
 ghost use Rattle.fill_rules.specs.Tasks.{ranked, task_at};
 ghost use Rattle.pool_rules.specs.declared.PoolEvent.TheVariants.{Take, Finish, Back};
-ghost use Rattle.fills.specs.Fills.{task_of, IsFillOf};
-ghost use Rattle.fill_pool.specs.Runs.{count_of, IsRunOf, IsHalted, IsNext, NoneReady, AllFinished, NoneHeld, IsHolding, HasEachFill, IsTableOf};
+ghost use Rattle.fills.specs.Fills.{task_of, IsFillOf, AreBoardFills};
+ghost use Rattle.fill_pool.specs.Runs.{IsRunOf, IsHalted, IsNext, NoneReady, AllFinished, NoneHeld, IsHolding};
+ghost use Rattle.fill_pool.specs.Inner.Tables.{IsTableOf};
 ghost use Rattle.fills.specs.Above.{AreFillsAbove};
 
 use crate::copies::{copy_row, into_all, no_fills};
 use crate::machine::Machine;
+use crate::table::table_of;
 use crate::{Named, Ticket};
+use board_model::Board;
 use fills::{Fill, Task};
 use grid_num::Memory;
+use knockouts::tasks;
 use pool_rules::PoolEvent;
 use std::alloc::Global;
 use std::marker::Model;
@@ -33,35 +37,43 @@ impl<N: Named> Model for Pool<N> {
     ghost use Rattle.std.specs.Arc.{arc_value};
     ghost use Rattle.pool_rules.specs.declared.PoolEvent.{PoolEvent};
     ghost use Rattle.fills.specs.Fills.{task_of};
-    ghost use Rattle.fill_pool.specs.Slots.{filled};
-    ghost use Rattle.fill_pool.specs.Fields.{IsPool};
+    ghost use Rattle.fill_pool.specs.Inner.Slots.{filled};
+    ghost use Rattle.fill_pool.specs.Inner.Fields.{IsPool};
 
     ghost Value = { List PoolEvent };
 
     ghost view = { λ p. p.machine };
 
-    ghost invariant = { λ p. IsPool N.board p.machine (map task_of p.tasks.items) (map filled p.fills.items) (map arc_value p.all.items) (vec_capacity p.all) };
+    ghost invariant = { λ p. IsPool N.board p.machine (map task_of p.tasks.items)
+        (map filled p.fills.items) (map arc_value p.all.items) (vec_capacity p.all) };
 }
 
 impl<N: Named> Pool<N> {
-    /// The pool in which all tasks wait. The tasks are those of the board in rank order, and for each the table has the ranks of
-    /// the tasks that reach it. All memory that the pool needs, other than for `above`, is taken here.
+    /// The pool in which all tasks of the board wait. The board is the one that N names. All memory that the pool needs, other
+    /// than for `above`, is taken here.
     ///
     /// # Errors
     ///
     /// Want of memory.
-    pub fn of_tasks(
-        alloc: Global,
-        tasks: Vec<Task>,
-        reaching: Vec<Vec<u32>>,
-    ) -> Result<Pool<N>, Memory>
+    pub fn new(alloc: Global, board: &Board) -> Result<Pool<N>, Memory>
+        requires named { board.now.board ≡ N.board }
+        ensures { IfOk result (λ p. p ≡ []) }
+    {
+        let tasks = tasks(alloc, board)?;
+        few_tasks(board, &tasks);
+        let table = table_of(alloc, board, &tasks)?;
+        Pool::of_tasks(alloc, tasks, table)
+    }
+
+    // The pool of these tasks, which are the board's in rank order, with the ranks of the tasks that reach each.
+    fn of_tasks(alloc: Global, tasks: Vec<Task>, table: Vec<Vec<u32>>) -> Result<Pool<N>, Memory>
         requires tasks { map task_of tasks.items ≡ ranked N.board }
-        requires table { IsTableOf N.board (map (λ v. v.items) reaching.items) }
-        requires few { length reaching.items < 2 ^ 32 }
+        requires table { IsTableOf N.board (map (λ row. row.items) table.items) }
+        requires few { length table.items < 2 ^ 32 }
         ensures { IfOk result (λ p. p ≡ []) }
     {
         let count = tasks.len();
-        let machine = Machine::new(alloc, reaching)?;
+        let machine = Machine::new(alloc, table)?;
         let fills = no_fills(alloc, count)?;
         let all = Vec::with_capacity(alloc, count)?;
         Ok(Pool {
@@ -96,7 +108,8 @@ impl<N: Named> Pool<N> {
     /// Want of memory; the list is then empty.
     pub fn above(&self, ticket: &Ticket<N>, into: &mut Vec<Arc<Fill>>) -> Result<(), Memory>
         requires { IsHolding N.board self.now ticket.now }
-        ensures fills { IfOk result (λ _. AreFillsAbove N.board ticket.now.number (map arc_value into.new.items)) }
+        ensures fills { IfOk result (λ _. AreFillsAbove N.board ticket.now.number
+            (map arc_value into.new.items)) }
         ensures empty { OnErr result (into.new.items ≡ []) }
     {
         into.clear();
@@ -113,8 +126,10 @@ impl<N: Named> Pool<N> {
     /// Enters the fill of the ticket's task, where the pool holds the ticket's number for the ticket's worker; else nothing
     /// changes.
     pub fn finish(&mut self, ticket: Ticket<N>, fill: Arc<Fill>)
-        requires { IsHolding N.board self.old ticket → IsFillOf N.board ticket.number (arc_value fill) }
-        ensures held { IsHolding N.board self.old ticket → self.new ≡ self.old ++ Finish ticket.worker ticket.number ∷ [] }
+        requires { IsHolding N.board self.old ticket
+            → IsFillOf N.board ticket.number (arc_value fill) }
+        ensures held { IsHolding N.board self.old ticket
+            → self.new ≡ self.old ++ Finish ticket.worker ticket.number ∷ [] }
         ensures stray { (IsHolding N.board self.old ticket → ⊥) → self.new ≡ self.old }
     {
         let number = ticket.number();
@@ -126,7 +141,8 @@ impl<N: Named> Pool<N> {
     /// Takes the ticket's task back unfinished, where the pool holds the ticket's number for the ticket's worker; else nothing
     /// changes. From then on no task is taken.
     pub fn give_back(&mut self, ticket: Ticket<N>)
-        ensures held { IsHolding N.board self.old ticket → self.new ≡ self.old ++ Back ticket.worker ticket.number ∷ [] }
+        ensures held { IsHolding N.board self.old ticket
+            → self.new ≡ self.old ++ Back ticket.worker ticket.number ∷ [] }
         ensures stray { (IsHolding N.board self.old ticket → ⊥) → self.new ≡ self.old }
     {
         let _held = self.machine.give_back(ticket.number(), ticket.worker());
@@ -164,8 +180,7 @@ impl<N: Named> Pool<N> {
     /// The fills of all tasks, in rank order.
     pub fn into_fills(self) -> Vec<Arc<Fill>>
         requires { AllFinished N.board self }
-        ensures count { length result.items ≡ count_of N.board }
-        ensures each { HasEachFill N.board (map arc_value result.items) }
+        ensures { AreBoardFills N.board (map arc_value result.items) }
     {
         let Pool {
             machine: _,
@@ -175,4 +190,13 @@ impl<N: Named> Pool<N> {
         } = self;
         into_all(fills, all)
     }
+}
+
+// A board has at most 2,000 zones on at most 32 layers, so it has few tasks.
+fn few_tasks(board: &Board, tasks: &[Task])
+    requires { map task_of tasks.now ≡ ranked board.now.board }
+    ensures { length tasks.now < 2 ^ 32 }
+{
+    board.sound();
+    let _count = tasks.len();
 }

@@ -2,7 +2,7 @@
 ghost use Rattle.std.specs.Prelude.{◌≡◌, ◌↔◌, ℕ, ◌<◌, ◌^◌, List, length, get_or, map, IfSome, IfNone, IsTrue, false};
 ghost use Rattle.std.specs.List.{All};
 ghost use Rattle.pool_rules.specs.declared.Slot.TheVariants.{Waiting, Held, Finished, Returned};
-ghost use Rattle.fill_pool.specs.Slots.{IsReadyRow};
+ghost use Rattle.fill_pool.specs.Inner.Slots.{IsReadyRow};
 
 use pool_rules::Slot;
 
@@ -87,8 +87,10 @@ pub fn first_ready(slots: &[Slot], table: &[Vec<u32>]) -> Option<u32>
     requires same { length table.now ≡ length slots.now }
     requires few { length slots.now < 2 ^ 32 }
     ensures ready { IfSome result (λ i. IsReadyRow (map (λ v. v.items) table.now) slots.now i) }
-    ensures first { IfSome result (λ i. (j : ℕ) → j < i → IsReadyRow (map (λ v. v.items) table.now) slots.now j → ⊥) }
-    ensures none { IfNone result ((j : ℕ) → IsReadyRow (map (λ v. v.items) table.now) slots.now j → ⊥) }
+    ensures first { IfSome result (λ i. (j : ℕ) → j < i
+        → IsReadyRow (map (λ v. v.items) table.now) slots.now j → ⊥) }
+    ensures none { IfNone result ((j : ℕ)
+        → IsReadyRow (map (λ v. v.items) table.now) slots.now j → ⊥) }
 {
     'each: for i in 0..slots.len() {
         if is_ready(slots, table, i) {
@@ -100,7 +102,8 @@ pub fn first_ready(slots: &[Slot], table: &[Vec<u32>]) -> Option<u32>
 
 /// Whether every task is finished.
 pub fn all_done(slots: &[Slot]) -> bool
-    ensures { IsTrue result ↔ ((i : ℕ) → i < length slots.now → get_or slots.now i Finished ≡ Finished) }
+    ensures { IsTrue result
+        ↔ ((i : ℕ) → i < length slots.now → get_or slots.now i Finished ≡ Finished) }
 {
     'each: for i in 0..slots.len() {
         if !is_finished(slots, i) {

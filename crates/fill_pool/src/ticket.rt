@@ -28,7 +28,8 @@ impl<N: Named> Model for Ticket<N> {
 
     ghost view = { λ t. record { task = task_of t.task; number = t.number; worker = t.worker } };
 
-    ghost invariant = { λ t. (t.number < count_of N.board) × (task_of t.task ≡ task_at N.board t.number) };
+    ghost invariant = { λ t. (t.number < count_of N.board)
+        × (task_of t.task ≡ task_at N.board t.number) };
 }
 
 impl<N: Named> Ticket<N> {

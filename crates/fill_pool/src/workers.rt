@@ -2,34 +2,18 @@
 ghost use Rattle.std.specs.Prelude.{◌≡◌, ◌+◌, ◌<◌, ◌≤◌, length, map, IfOk, IfSome};
 ghost use Rattle.std.specs.Arc.{arc_value};
 ghost use Rattle.std.specs.Thread.{IsSync};
-ghost use Rattle.fills.specs.Fills.{IsFillOf};
-ghost use Rattle.fill_pool.specs.Runs.{count_of, HasEachFill};
-ghost use Rattle.fills.specs.Above.{AreFillsAbove};
-ghost use Rattle.fill_pool.specs.Workers.{HasAbove};
+ghost use Rattle.fills.specs.Fills.{IsFillOf, AreBoardFills};
+ghost use Rattle.fill_pool.specs.Inner.Workers.{HasAbove};
 
+use crate::filling::{filled, filled_alone};
 use crate::{Named, Pool, Ticket};
+use board_model::Board;
 use fills::Fill;
 use grid_num::Memory;
 use std::alloc::Global;
+use std::marker::Brand;
 use std::sync::{Arc, Condvar, Mutex, Wait};
 use std::thread::{Threads, join};
-
-/// How one task of the named board is filled.
-pub trait Filler<N: Named> {
-    /// The fill of the ticket's task, on the fills of exactly the tasks that reach it, in rank order.
-    ///
-    /// # Errors
-    ///
-    /// Want of memory.
-    fn fill(
-        &self,
-        alloc: Global,
-        ticket: &Ticket<N>,
-        above: &[Arc<Fill>],
-    ) -> Result<Arc<Fill>, Memory>
-        requires { AreFillsAbove N.board ticket.now.number (map arc_value above.now) }
-        ensures { IfOk result (λ fill. IsFillOf N.board ticket.now.number (arc_value fill)) };
-}
 
 /// What a worker passes, outside the lock, before it fills a task: once for each task that is filled.
 pub trait Gate {
@@ -101,20 +85,22 @@ fn hand_back<N: Named, R: Wait>(rt: &R, shared: &Shared<N>, ticket: Ticket<N>) {
 }
 
 // Fills tasks until there is nothing to take and nothing is held.
-fn work<N: Named, F: Filler<N>, G: Gate, R: Wait>(
+fn work<N: Named, G: Gate, R: Wait>(
     rt: &R,
     alloc: Global,
+    board: &Board,
     shared: &Shared<N>,
-    filler: &F,
     gate: &G,
     worker: u32,
-) -> Result<(), Memory> {
+) -> Result<(), Memory>
+    requires named { board.now.board ≡ N.board }
+{
     let mut above = Vec::new(alloc);
     for _ in rt.forever() {
         match take_next(rt, shared, worker, &mut above) {
             Next::Fill(ticket) => {
                 gate.enter(worker, ticket.number());
-                match filler.fill(alloc, &ticket, &above) {
+                match filled(alloc, board, &ticket, &above) {
                     Ok(fill) => hand_in(rt, shared, ticket, fill),
                     Err(memory) => {
                         hand_back(rt, shared, ticket);
@@ -134,25 +120,21 @@ fn work<N: Named, F: Filler<N>, G: Gate, R: Wait>(
 }
 
 // So many workers side by side, numbered from the first one on.
-fn work_together<
-    N: Named + Send + Sync,
-    F: Filler<N> + Sync,
-    G: Gate + Sync,
-    R: Threads + Wait + Sync,
->(
+fn work_together<N: Named + Send + Sync, G: Gate + Sync, R: Threads + Wait + Sync>(
     rt: &R,
     alloc: Global,
+    board: &Board,
     shared: &Shared<N>,
-    filler: &F,
     gate: &G,
     first: u32,
     count: u32,
 ) -> Result<(), Memory>
+    requires named { board.now.board ≡ N.board }
     requires some { 1 ≤ count }
     requires few { first + count ≤ 64 }
 {
     if count == 1 {
-        return work(rt, alloc, shared, filler, gate, first);
+        return work(rt, alloc, board, shared, gate, first);
     }
     let half = count / 2;
     let rest = count - half;
@@ -160,48 +142,63 @@ fn work_together<
     let (one, two) = join(
         rt,
         || -> Result<(), Memory>
-            requires { IsSync R.row × (1 ≤ half) × (first + half ≤ 64) }
-        { work_together(rt, alloc, shared, filler, gate, first, half) },
+            requires { IsSync R.row × (board.now.board ≡ N.board)
+                × (1 ≤ half) × (first + half ≤ 64) }
+        { work_together(rt, alloc, board, shared, gate, first, half) },
         || -> Result<(), Memory>
-            requires { IsSync R.row × (1 ≤ rest) × (middle + rest ≤ 64) }
-        { work_together(rt, alloc, shared, filler, gate, middle, rest) },
+            requires { IsSync R.row × (board.now.board ≡ N.board)
+                × (1 ≤ rest) × (middle + rest ≤ 64) }
+        { work_together(rt, alloc, board, shared, gate, middle, rest) },
     );
     one?;
     two
 }
 
-/// Fills the pool's tasks by so many workers. Where all tasks are finished it gives their fills, in rank order. It may wait. No
-/// clause rules out that tasks are left over; then none come.
-///
-/// # Errors
-///
-/// Want of memory.
-pub fn fill_by<
-    N: Named + Send + Sync,
-    F: Filler<N> + Sync,
-    G: Gate + Sync,
-    R: Threads + Wait + Sync,
->(
+// Fills the tasks of the board that N names by so many workers. None comes where tasks are left over.
+fn by_workers<N: Named + Send + Sync, G: Gate + Sync, R: Threads + Wait + Sync>(
     rt: &R,
     alloc: Global,
-    pool: Pool<N>,
-    filler: &F,
-    gate: &G,
+    board: &Board,
     workers: u32,
+    gate: &G,
 ) -> Result<Option<Vec<Arc<Fill>>>, Memory>
+    requires named { board.now.board ≡ N.board }
     requires some { 1 ≤ workers }
     requires few { workers ≤ 64 }
-    ensures count { IfOk result (λ done. IfSome done (λ fills. length fills.items ≡ count_of N.board)) }
-    ensures each { IfOk result (λ done. IfSome done (λ fills. HasEachFill N.board (map arc_value fills.items))) }
+    ensures { IfOk result (λ done. IfSome done (λ fills.
+        AreBoardFills board.now.board (map arc_value fills.items))) }
 {
     let shared = Shared {
-        pool: Mutex::new(pool),
+        pool: Mutex::new(Pool::<N>::new(alloc, board)?),
         changed: Condvar::new(),
     };
-    work_together(rt, alloc, &shared, filler, gate, 0, workers)?;
+    work_together(rt, alloc, board, &shared, gate, 0, workers)?;
     let pool = shared.pool.into_inner();
     if !pool.is_done() {
         return Ok(None);
     }
     Ok(Some(pool.into_fills()))
+}
+
+/// The fills of all tasks of the board, in rank order, made by so many workers. It may wait. No clause rules out that tasks are
+/// left over when all workers have ended; then they are made one after another.
+///
+/// # Errors
+///
+/// Want of memory.
+pub fn fill_with<R: Threads + Wait + Sync, G: Gate + Sync>(
+    rt: &R,
+    alloc: Global,
+    board: &Board,
+    workers: u32,
+    gate: &G,
+) -> Result<Vec<Arc<Fill>>, Memory>
+    requires some { 1 ≤ workers }
+    requires few { workers ≤ 64 }
+    ensures { IfOk result (λ fills. AreBoardFills board.now.board (map arc_value fills.items)) }
+{
+    match by_workers::<Brand, G, R>(rt, alloc, board, workers, gate)? {
+        Some(fills) => Ok(fills),
+        None => filled_alone(alloc, board),
+    }
 }

@@ -7,7 +7,8 @@ use Rattle.classes.proofs.Reaching.{reaches_then, reaches_link, reaches_back, re
 use Rattle.grid_num.specs.declared.Point.{Point}
 use Rattle.board_language.specs.Board.{Board}
 use Rattle.fill_rules.specs.Tasks.{zone_at}
-use Rattle.fill_rules.specs.Fill.{Fills, brush_at, IsAllowed, IsLinked, IsAnchored, IsKept, IsBefore}
+use Rattle.open_laws.specs.Open.{IsBefore}
+use Rattle.fill_rules.specs.Fill.{Fills, brush_at, IsAllowed, IsLinked, IsAnchored, IsKept}
 use Rattle.fill_rules.proofs.Spared.{spared_alike}
 
 -- ---- near

@@ -6,6 +6,7 @@ use Rattle.plane.specs.Covering.{Covers, StrictlyCovers, edges_of}
 use Rattle.copper_shape.specs.Shapes.{Copper}
 use Rattle.classes.specs.Classes.{Reaches, IsLeastOf, IsOneOf}
 use Rattle.grid_sets.specs.Points.{IsCount}
+use Rattle.open_laws.specs.Open.{IsBefore}
 use Rattle.islands.specs.Held.{IsTouching}
 use Rattle.islands.specs.Inside.{IsWithinEdges}
 use Rattle.board_language.specs.declared.IslandMode.{IslandMode}
@@ -57,10 +58,6 @@ pub record IsLive (b : Board) (above : Fills) (i : ℕ) (o : Bounds) : Type 0 wh
   pub fits : Fits b i o
   pub clear : IsClear b above i o
   pub meets : (c : Point) × IsAllowed b above i c × IsMeeting o (brush_at b i c)
-
--- least y, then least x
-abbrev pub IsBefore : Point → Point → Type 0
-IsBefore c d = (c.y <ℤ d.y) ⊎ ((c.y ≡ d.y) × (c.x ≤ℤ d.x))
 
 -- a live spoke meets the component of c, or an anchor touches it
 abbrev pub IsAnchored : Board → Fills → ℕ → Point → Type 0

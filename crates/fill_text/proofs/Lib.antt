@@ -1,1 +1,6 @@
 pub mod Layers
+pub mod Counted
+pub mod Alikes
+pub mod Once
+pub mod NetsSaid
+pub mod TasksSaid

@@ -6,9 +6,9 @@ ghost use Rattle.fill_rules.specs.Tasks.{ranked};
 ghost use Rattle.fills.specs.Fills.{task_of};
 ghost use Rattle.output_rules.specs.Output.{board_pieces, text_with_rings};
 ghost use Rattle.output_rules.specs.Shown.{piece_shown};
-ghost use Rattle.outlines.specs.Drawn.{AreInRange};
+ghost use Rattle.outlines.specs.Drawn.{AreRingsInRange};
 
-use crate::zone::{Written, zone_text};
+use crate::zone::{WrittenBoard, zone_text};
 use board_model::Board;
 use grid_num::Memory;
 use knockouts::tasks;
@@ -18,9 +18,9 @@ use std::alloc::Global;
 
 // What is replaced in the board's text: in each zone its old fills, and its rings at the tail.
 #[tactic(auto, unfolding(output_rules::specs::Output::board_pieces))]
-fn pieces_of(alloc: Global, text: &[u8], it: &Written<'_>) -> Result<Vec<Piece>, Memory>
+fn pieces_of(alloc: Global, text: &[u8], it: &WrittenBoard<'_>) -> Result<Vec<Piece>, Memory>
     requires order { map task_of it.now.tasks.now ≡ ranked it.now.board.now.board }
-    requires range { AreInRange it.now.traced.now }
+    requires range { AreRingsInRange it.now.traced.now }
     ensures { IfOk result (λ v. map piece_shown v.items ≡ board_pieces text.now it.now.board.now.board it.now.traced.now) }
 {
     it.board.sound();
@@ -48,12 +48,12 @@ pub fn board_text(
     traced: &[Traced],
 ) -> Result<Vec<u8>, Memory>
     requires board { (rules : Rules) × IsBoardOf text.now rules board.now.board }
-    requires range { AreInRange traced.now }
+    requires range { AreRingsInRange traced.now }
     ensures { IfOk result (λ v. v.items ≡ text_with_rings text.now board.now.board traced.now) }
 {
     placed_law();
     let tasks = tasks(alloc, board)?;
-    let it = Written {
+    let it = WrittenBoard {
         board,
         tasks: tasks.as_slice(),
         traced,

@@ -8,7 +8,7 @@ ghost use Rattle.fill_rules.specs.Tasks.{layers_below, ranked};
 ghost use Rattle.fill_rules.specs.Nodes.{rank_in};
 ghost use Rattle.fills.specs.Fills.{task_of};
 ghost use Rattle.output_rules.specs.Output.{rings_text};
-ghost use Rattle.outlines.specs.Drawn.{AreInRange};
+ghost use Rattle.outlines.specs.Drawn.{AreRingsInRange};
 ghost use Rattle.fill_text.specs.Zone.{layer_text};
 
 use board_model::Board;
@@ -21,7 +21,7 @@ use std::alloc::Global;
 
 /// A board that is written: its tasks in rank order, and the outlines of their fills.
 #[derive(Clone, Copy)]
-pub struct Written<'a> {
+pub struct WrittenBoard<'a> {
     pub board: &'a Board,
     pub tasks: &'a [Task],
     pub traced: &'a [Traced],
@@ -41,7 +41,7 @@ fn rank_of(tasks: &[Task], task: Task) -> usize
 
 // The rings at the place; none past the last.
 fn rings_at(traced: &[Traced], rank: usize) -> &[Ring]
-    requires { AreInRange traced.now }
+    requires { AreRingsInRange traced.now }
     ensures value { result.now ≡ (get_or traced.now rank not_traced).rings }
     ensures range { All IsRingInRange result.now }
 {
@@ -58,10 +58,10 @@ fn rings_of(outlines: &Traced) -> &[Ring]
 }
 
 // The rings of the zone's fill on one layer.
-fn text_on(alloc: Global, it: &Written<'_>, zone: u32, layer: u8) -> Result<Vec<u8>, Memory>
+fn text_on(alloc: Global, it: &WrittenBoard<'_>, zone: u32, layer: u8) -> Result<Vec<u8>, Memory>
     requires order { map task_of it.now.tasks.now ≡ ranked it.now.board.now.board }
     requires layer { layer < length it.now.board.now.board.layers }
-    requires range { AreInRange it.now.traced.now }
+    requires range { AreRingsInRange it.now.traced.now }
     ensures { IfOk result (λ v. v.items ≡ layer_text it.now.board.now.board it.now.traced.now zone layer) }
 {
     let name = it.board.layers()[usize::from(layer)].bytes();
@@ -73,14 +73,14 @@ fn text_on(alloc: Global, it: &Written<'_>, zone: u32, layer: u8) -> Result<Vec<
 fn with_layer(
     alloc: Global,
     text: Vec<u8>,
-    it: &Written<'_>,
+    it: &WrittenBoard<'_>,
     zone: u32,
     layer: u8,
     wanted: bool,
 ) -> Result<Vec<u8>, Memory>
     requires order { map task_of it.now.tasks.now ≡ ranked it.now.board.now.board }
     requires layer { layer < length it.now.board.now.board.layers }
-    requires range { AreInRange it.now.traced.now }
+    requires range { AreRingsInRange it.now.traced.now }
     ensures { IfOk result (λ v. v.items ≡ text.items ++ cond wanted (layer_text it.now.board.now.board it.now.traced.now zone layer) []) }
 {
     let mut text = text;
@@ -92,10 +92,10 @@ fn with_layer(
 }
 
 /// The rings of all fills of a zone, in the order of the layers.
-pub fn zone_text(alloc: Global, it: &Written<'_>, zone: u32) -> Result<Vec<u8>, Memory>
+pub fn zone_text(alloc: Global, it: &WrittenBoard<'_>, zone: u32) -> Result<Vec<u8>, Memory>
     requires order { map task_of it.now.tasks.now ≡ ranked it.now.board.now.board }
     requires zone { zone < length it.now.board.now.board.zones }
-    requires range { AreInRange it.now.traced.now }
+    requires range { AreRingsInRange it.now.traced.now }
     ensures { IfOk result (λ v. (z : Zone) → v.items ≡ rings_text it.now.board.now.board it.now.traced.now zone (get_or it.now.board.now.board.zones zone z)) }
 {
     it.board.sound();

@@ -3,6 +3,7 @@
 //! A line begins with a word that says what is asked. Octagons are in units of 2 nm, corners in nanometres, cores in halves.
 #![tactic(auto)]
 
+mod bin_rows;
 mod cores_pair;
 mod edge_rows;
 mod outlines;
@@ -165,6 +166,7 @@ fn answer(alloc: Global, table: &mut Table, line: &str) -> Result<Option<String>
         "outline" => put_outline(alloc, table, rest),
         "place" => outlines::place(alloc, table.corners.as_slice(), rest),
         "cover" => outlines::cover(alloc, table.corners.as_slice(), rest),
+        "meeting" => bin_rows::meeting(alloc, table.octagons.as_slice(), words::bounds(rest)),
         "parts" | "anchor" | "spoke" | "held" | "edge" | "bow" | "within" => {
             of_board(alloc, table, command, rest)
         }

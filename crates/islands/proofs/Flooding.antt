@@ -1,308 +1,398 @@
--- Flooding finds a part, and part by part all labels.
-use Rattle.std.proofs.Common.{◌≡◌, refl, sym, ◌∙◌, ap, subst, ℕ, ◌+◌, ◌*◌, ◌-◌, ◌<◌, ◌≤◌, ◌⊎◌, inl, inr, arith, List, [], ◌∷◌, ◌++◌, length, get_or, take, set, length-append, length-set}
-use Rattle.std.specs.Prelude.{min}
+-- Labels spread over a part, and part by part over all octagons.
+use Rattle.std.proofs.Common.{◌≡◌, refl, sym, ◌∙◌, ap, subst, ℕ, zero, suc, ◌+◌, ◌*◌, ◌-◌, ◌<◌, ◌≤◌, inl, inr, arith, List, [], ◌∷◌, ◌++◌, length, get_or, take, set, length-append, length-set}
+use Rattle.std.specs.Prelude.{Bool, true, false, ◌==◌, cond, slice_get, Some}
 use Rattle.std.specs.List.{All}
-use Rattle.std.proofs.lemmas.Bool.{cases_eq, cases_lt}
-use Rattle.std.proofs.lemmas.List.{take_more, take_all, take-append-le, get_or_append_left, get_or_push, get_or-set_same, get_or-set_other, get_or_default}
-use Rattle.plane.specs.Plane.{Bounds}
-use Rattle.classes.specs.Classes.{IsOneOf, Reaches, IsLeastOf}
+use Rattle.std.proofs.lemmas.Option.{slice_get_read}
+use Rattle.std.proofs.lemmas.Bool.{cases_eq}
+use Rattle.std.proofs.lemmas.Bool.Decides.{Decides-eqb}
+use Rattle.std.proofs.lemmas.List.{take_more, take_all, take-append-le, get_or-set_same, get_or-set_other}
+use Rattle.plane.specs.Plane.{Bounds, IsMeeting}
+use Rattle.classes.specs.Classes.{IsOneOf, IsLeastOf}
 use Rattle.classes.proofs.Reaching.{reaches_self, reaches_link, reaches_then, reaches_keeps, least_shared}
+use Rattle.bins.specs.Meeting.{IsMeetingThere, AreThoseMeeting}
 use Rattle.islands.specs.Parts.{IsMeetingAt, IsUpTo, AreParts}
-use Rattle.islands.specs.Inner.Flood.{AreNumbers, AreBelow, IsSplit, IsFlooding, IsFlooded, IsLeastSeen, IsLeastAmong, AreLabelled}
-use Rattle.islands.proofs.Members.{one_front, one_back, one_split, one_last, last_split, only_one, one_only, none_in, one_at, all_of, of_all, second_within}
+use Rattle.islands.specs.Inner.Flood.{HasNoLabel, how_many, ArePartly, IsMember, IsFlooding, AreSpread}
+use Rattle.islands.proofs.Members.{one_front, one_back, one_split, one_last, last_split, only_one, one_only, none_in, one_at, all_of, second_within, same_there}
 use Rattle.islands.proofs.PartLaws.{meeting_at_back}
 
--- ---- parting those that are left
-pub split_none : (octs : List Bounds) (k : ℕ) → IsSplit octs k [] [] []
-split_none octs k = record {
-  each = λ j i. absurd (none_in j i);
-  meeting = λ j i. absurd (none_in j i);
-  others = λ j i. absurd (none_in j i);
+-- ---- how many have no label
+is_yes : (a b : ℕ) → a ≡ b → (a == b) ≡ true
+is_yes a b e = (Decides-eqb a b).1 e
+
+is_no : (a b : ℕ) → (a ≡ b → ⊥) → (a == b) ≡ false
+is_no a b n = no (a == b) (λ t. n ((Decides-eqb a b).0 t))
+  where
+    no : (t : Bool) → (t ≡ true → ⊥) → t ≡ false
+    no true f = absurd (f refl)
+    no false f = refl
+
+how_many_set : (n label : ℕ) (ls : List ℕ) (i : ℕ) → i < length ls → get_or ls i 0 ≡ n → (label ≡ n → ⊥) → suc (how_many n (set ls i label)) ≡ how_many n ls
+unfolding how_many
+how_many_set n label [] i l e m = absurd (omega (arith, l))
+how_many_set n label (x ∷ ls) zero l e m = rw (is_yes x n e, is_no label n m) refl
+how_many_set n label (x ∷ ls) (suc i) l e m = step (x == n) (how_many_set n label ls i (omega (arith, l)) e m)
+  where
+    step : (t : Bool) → suc (how_many n (set ls i label)) ≡ how_many n ls
+        → suc (cond t (suc (how_many n (set ls i label))) (how_many n (set ls i label))) ≡ cond t (suc (how_many n ls)) (how_many n ls)
+    step true q = ap (λ k. suc k) q
+    step false q = q
+
+-- ---- spreading over those that an octagon meets
+pub spread_none : (label : ℕ) (before old : List ℕ) → AreSpread [] label before old before old
+spread_none label before old = record {
   count = refl;
+  new = [];
+  added = sym (append_none old);
+  from = λ j i. i;
+  bare = λ j i. absurd (none_in j i);
+  given = λ j i. absurd (none_in j i);
+  kept = λ j. inr refl;
+  whole = λ j i. absurd (none_in j i);
+  fewer = refl;
 }
+  where
+    append_none : (xs : List ℕ) → xs ++ [] ≡ xs
+    append_none [] = refl
+    append_none (x ∷ xs) = ap (λ ys. x ∷ ys) (append_none xs)
 
-split_met : (octs : List Bounds) (k x : ℕ) (front met rest : List ℕ) → IsMeetingAt octs k x → IsSplit octs k front met rest
-    → IsSplit octs k (front ++ (x ∷ [])) (met ++ (x ∷ [])) rest
-split_met octs k x front met rest m h = record {
-  each = λ j i. elim (last_split j x front i) [
-    | inl a ↦ elim (h.each j a) [ inl b ↦ inl (one_front j met (x ∷ []) b) | inr b ↦ inr b ]
-    | inr e ↦ inl (subst (λ y. IsOneOf y (met ++ (x ∷ []))) (sym e) (one_last x met))
-  ];
-  meeting = λ j i. elim (last_split j x met i) [
-    | inl a ↦ (one_front j front (x ∷ []) (h.meeting j a).0, (h.meeting j a).1)
-    | inr e ↦ subst (λ y. IsOneOf y (front ++ (x ∷ [])) × IsMeetingAt octs k y) (sym e) (one_last x front, m)
-  ];
-  others = λ j i. (one_front j front (x ∷ []) (h.others j i).0, (h.others j i).1);
-  count = let a = length-append met (x ∷ []) in let b = length-append front (x ∷ []) in let c = h.count in omega (arith, a, b, c);
-}
-
-split_other : (octs : List Bounds) (k x : ℕ) (front met rest : List ℕ) → (IsMeetingAt octs k x → ⊥) → IsSplit octs k front met rest
-    → IsSplit octs k (front ++ (x ∷ [])) met (rest ++ (x ∷ []))
-split_other octs k x front met rest m h = record {
-  each = λ j i. elim (last_split j x front i) [
-    | inl a ↦ elim (h.each j a) [ inl b ↦ inl b | inr b ↦ inr (one_front j rest (x ∷ []) b) ]
-    | inr e ↦ inr (subst (λ y. IsOneOf y (rest ++ (x ∷ []))) (sym e) (one_last x rest))
-  ];
-  meeting = λ j i. (one_front j front (x ∷ []) (h.meeting j i).0, (h.meeting j i).1);
-  others = λ j i. elim (last_split j x rest i) [
-    | inl a ↦ (one_front j front (x ∷ []) (h.others j a).0, (h.others j a).1)
-    | inr e ↦ subst (λ y. IsOneOf y (front ++ (x ∷ [])) × (IsMeetingAt octs k y → ⊥)) (sym e) (one_last x front, m)
-  ];
-  count = let a = length-append rest (x ∷ []) in let b = length-append front (x ∷ []) in let c = h.count in omega (arith, a, b, c);
-}
-
-pub split_yes : (octs : List Bounds) (k : ℕ) (left met rest : List ℕ) (i d : ℕ) → i < length left → IsMeetingAt octs k (get_or left i d)
-    → IsSplit octs k (take i left) met rest → IsSplit octs k (take (i + 1) left) (met ++ (get_or left i d ∷ [])) rest
-split_yes octs k left met rest i d l m h =
-    subst (λ z. IsSplit octs k z (met ++ (get_or left i d ∷ [])) rest) (sym (take_more left i d l))
-    (split_met octs k (get_or left i d) (take i left) met rest m h)
-
-pub split_no : (octs : List Bounds) (k : ℕ) (left met rest : List ℕ) (i d : ℕ) → i < length left → (IsMeetingAt octs k (get_or left i d) → ⊥)
-    → IsSplit octs k (take i left) met rest → IsSplit octs k (take (i + 1) left) met (rest ++ (get_or left i d ∷ []))
-split_no octs k left met rest i d l m h =
-    subst (λ z. IsSplit octs k z met (rest ++ (get_or left i d ∷ []))) (sym (take_more left i d l))
-    (split_other octs k (get_or left i d) (take i left) met rest m h)
-
-pub split_end : (octs : List Bounds) (k : ℕ) (left met rest : List ℕ) (i : ℕ) → length left ≤ i → IsSplit octs k (take i left) met rest → IsSplit octs k left met rest
-split_end octs k left met rest i l h = subst (λ z. IsSplit octs k z met rest) (take_all i left l) h
-
-pub met_numbers : (octs : List Bounds) (k : ℕ) (left met rest : List ℕ) → AreNumbers octs left → IsSplit octs k left met rest → AreNumbers octs met
-met_numbers octs k left met rest n h = all_of (λ j. j < length octs) met (λ j i. of_all (λ j. j < length octs) left n j (h.meeting j i).0)
-
-pub rest_numbers : (octs : List Bounds) (k : ℕ) (left met rest : List ℕ) → AreNumbers octs left → IsSplit octs k left met rest → AreNumbers octs rest
-rest_numbers octs k left met rest n h = all_of (λ j. j < length octs) rest (λ j i. of_all (λ j. j < length octs) left n j (h.others j i).0)
-
--- ---- flooding
-pub flooding_begun : (octs : List Bounds) (first : ℕ) (before : List ℕ) → IsFlooding octs first before 0 (first ∷ []) before
-flooding_begun octs first before = record {
-  begun = one_only first;
-  reached = λ j i. subst (λ y. Reaches (IsMeetingAt octs) first y) (sym (only_one j first i)) (reaches_self (IsMeetingAt octs) first);
-  closed = λ j k i. absurd (none_in j i);
-  each = λ j i. inr i;
-  from = λ j i. inl (only_one j first i);
-  rest = λ j i. i;
-  fewer = omega arith;
-}
-
-module _ (octs : List Bounds) (first : ℕ) (before : List ℕ) (done d : ℕ) (members left met rest : List ℕ) (l : done < length members)
-    (h : IsFlooding octs first before done members left) (s : IsSplit octs (get_or members done d) left met rest) where
-  abbrev now : ℕ
-  now = get_or members done d
-
-  now_reached : Reaches (IsMeetingAt octs) first now
-  now_reached = h.reached now (one_at members done d l)
-
-  taken : take (done + 1) (members ++ met) ≡ take done members ++ (now ∷ [])
-  taken = take-append-le (done + 1) members met (omega (arith, l)) ∙ take_more members done d l
-
-  more_closed : (j k : ℕ) → IsOneOf j (take (done + 1) (members ++ met)) → IsOneOf k rest → IsMeetingAt octs j k → ⊥
-  more_closed j k i r m = elim (last_split j now (take done members) (subst (IsOneOf j) taken i)) [
-    | inl a ↦ h.closed j k a (s.others k r).0 m
-    | inr e ↦ (s.others k r).1 (subst (λ y. IsMeetingAt octs y k) e m)
-  ]
-
-  flooding_more : IsFlooding octs first before (done + 1) (members ++ met) rest
-  flooding_more = record {
-    begun = one_front first members met h.begun;
-    reached = λ j i. elim (one_split j members met i) [
-      | inl a ↦ h.reached j a
-      | inr a ↦ reaches_then (IsMeetingAt octs) first now j now_reached (reaches_link (IsMeetingAt octs) now j (s.meeting j a).1)
-    ];
-    closed = more_closed;
-    each = λ j i. elim (h.each j i) [
-      | inl a ↦ inl (one_front j members met a)
-      | inr a ↦ elim (s.each j a) [ inl b ↦ inl (one_back j members met b) | inr b ↦ inr b ]
-    ];
-    from = λ j i. elim (one_split j members met i) [ inl a ↦ h.from j a | inr a ↦ inr (h.rest j (s.meeting j a).0) ];
-    rest = λ j i. h.rest j (s.others j i).0;
-    fewer = let a = h.fewer in let b = s.count in omega (arith, a, b);
+module _ (seen : List ℕ) (label x : ℕ) (before old after members : List ℕ) (h : AreSpread seen label before old after members) where
+  spread_past : (get_or after x 0 ≡ length before → ⊥) → AreSpread (seen ++ (x ∷ [])) label before old after members
+  spread_past n = record {
+    count = h.count;
+    new = h.new;
+    added = h.added;
+    from = λ j i. one_front j seen (x ∷ []) (h.from j i);
+    bare = h.bare;
+    given = h.given;
+    kept = h.kept;
+    whole = λ j i e. elim (last_split j x seen i) [ inl a ↦ h.whole j a e | inr q ↦ n (subst (λ k. get_or after k 0 ≡ length before) q e) ];
+    fewer = h.fewer;
   }
 
-  -- each turn is one member done, or moves members from those left
-  flooding_falls : (length (members ++ met) + 2 * length rest) - (done + 1) < (length members + 2 * length left) - done
-  flooding_falls = let a = length-append members met in let b = s.count in omega (arith, a, b, l)
+  module _ (bare : get_or after x 0 ≡ length before) (l : x < length before) (m : label < length before) where
+    abbrev put : List ℕ
+    put = set after x label
 
-pub flooding_onward : (octs : List Bounds) (first : ℕ) (before : List ℕ) (done d : ℕ) (members left met rest : List ℕ) → done < length members
-    → IsFlooding octs first before done members left → IsSplit octs (get_or members done d) left met rest
-    → IsFlooding octs first before (done + 1) (members ++ met) rest
-flooding_onward octs first before done d members left met rest l h s = flooding_more octs first before done d members left met rest l h s
+    -- it had no label before: it isn't one of the new members, since these have one
+    fresh : IsOneOf x h.new → ⊥
+    fresh i = let e = h.given x i in omega (arith, e, bare, m)
 
-pub flooding_smaller : (octs : List Bounds) (first : ℕ) (before : List ℕ) (done d : ℕ) (members left met rest : List ℕ) → done < length members
-    → IsFlooding octs first before done members left → IsSplit octs (get_or members done d) left met rest
-    → (length (members ++ met) + 2 * length rest) - (done + 1) < (length members + 2 * length left) - done
-flooding_smaller octs first before done d members left met rest l h s = flooding_falls octs first before done d members left met rest l h s
+    was_bare : get_or before x 0 ≡ length before
+    was_bare = elim (h.kept x) [ inl i ↦ absurd (fresh i) | inr e ↦ sym e ∙ bare ]
 
-pub flooding_end : (octs : List Bounds) (first : ℕ) (before : List ℕ) (done : ℕ) (members left : List ℕ) → length members ≤ done
-    → IsFlooding octs first before done members left → IsFlooded octs first before members left
-flooding_end octs first before done members left l h = record {
-  begun = h.begun;
-  reached = h.reached;
-  closed = λ j k i. h.closed j k (subst (IsOneOf j) (take_all (length members) members (omega arith) ∙ sym (take_all done members l)) i);
-  each = h.each;
-  from = h.from;
-  rest = h.rest;
-  fewer = h.fewer;
-}
+    at_x : get_or put x 0 ≡ label
+    at_x = get_or-set_same after x label 0 (let c = h.count in omega (arith, c, l))
 
-pub flooding_members : (octs : List Bounds) (first : ℕ) (before : List ℕ) (done : ℕ) (members left : List ℕ) → first < length octs → AreNumbers octs before
-    → IsFlooding octs first before done members left → AreNumbers octs members
-flooding_members octs first before done members left f n h = all_of (λ j. j < length octs) members (λ j i. elim (h.from j i) [
-  | inl e ↦ subst (λ y. y < length octs) (sym e) f
-  | inr a ↦ of_all (λ j. j < length octs) before n j a
-])
+    off_x : (j : ℕ) → (j ≡ x → ⊥) → get_or put j 0 ≡ get_or after j 0
+    off_x j n = get_or-set_other after x j label 0 n
 
-pub flooding_left : (octs : List Bounds) (first : ℕ) (before : List ℕ) (done : ℕ) (members left : List ℕ) → AreNumbers octs before
-    → IsFlooding octs first before done members left → AreNumbers octs left
-flooding_left octs first before done members left n h = all_of (λ j. j < length octs) left (λ j i. of_all (λ j. j < length octs) before n j (h.rest j i))
+    here : (P : ℕ → Type 0) (j : ℕ) → j ≡ x → P x → P j
+    here P j e p = subst P (sym e) p
 
--- ---- the numbers below a count
-pub below_none : AreBelow 0 []
-below_none = record { many = refl; each = λ k l. absurd (omega (arith, l)) }
+    new_label : (j : ℕ) → IsOneOf j (h.new ++ (x ∷ [])) → get_or put j 0 ≡ label
+    new_label j i = elim (cases_eq j x) [
+      | inl e ↦ here (λ k. get_or put k 0 ≡ label) j e at_x
+      | inr n ↦ elim (last_split j x h.new i) [ inl a ↦ off_x j n ∙ h.given j a | inr e ↦ absurd (n e) ]
+    ]
 
-pub below_more : (k : ℕ) (xs : List ℕ) → AreBelow k xs → AreBelow (k + 1) (xs ++ (k ∷ []))
-below_more k xs h = record {
-  many = let a = length-append xs (k ∷ []) in let b = h.many in omega (arith, a, b);
-  each = λ j l. elim (cases_lt j k) [
-    | inl m ↦ get_or_append_left xs (k ∷ []) 0 j (let b = h.many in omega (arith, b, m)) ∙ h.each j m
-    | inr m ↦ (let e : k ≡ j = omega (arith, l, m) in get_or_push xs k 0 j (h.many ∙ e) ∙ e)
-  ];
-}
+    spread_to : AreSpread (seen ++ (x ∷ [])) label before old put (members ++ (x ∷ []))
+    spread_to = record {
+      count = length-set after x label ∙ h.count;
+      new = h.new ++ (x ∷ []);
+      added = ap (λ z. z ++ (x ∷ [])) h.added ∙ append_assoc old h.new (x ∷ []);
+      from = λ j i. elim (last_split j x h.new i) [ inl a ↦ one_front j seen (x ∷ []) (h.from j a) | inr e ↦ here (λ k. IsOneOf k (seen ++ (x ∷ []))) j e (one_last x seen) ];
+      bare = λ j i. elim (last_split j x h.new i) [ inl a ↦ h.bare j a | inr e ↦ here (λ k. get_or before k 0 ≡ length before) j e was_bare ];
+      given = new_label;
+      kept = λ j. elim (cases_eq j x) [
+        | inl e ↦ inl (here (λ k. IsOneOf k (h.new ++ (x ∷ []))) j e (one_last x h.new))
+        | inr n ↦ elim (h.kept j) [ inl a ↦ inl (one_front j h.new (x ∷ []) a) | inr e ↦ inr (off_x j n ∙ e) ]
+      ];
+      whole = λ j i e. elim (cases_eq j x) [
+        | inl q ↦ (let a = at_x in let b = subst (λ k. get_or put k 0 ≡ length before) q e in omega (arith, a, b, m))
+        | inr n ↦ elim (last_split j x seen i) [ inl a ↦ h.whole j a (sym (off_x j n) ∙ e) | inr q ↦ n q ]
+      ];
+      fewer = let a = h.fewer in let b = length-append members (x ∷ []) in
+          let c = how_many_set (length before) label after x (let c = h.count in omega (arith, c, l)) bare (λ e. omega (arith, e, m)) in omega (arith, a, b, c);
+    }
+      where
+        append_assoc : (xs ys zs : List ℕ) → (xs ++ ys) ++ zs ≡ xs ++ (ys ++ zs)
+        append_assoc [] ys zs = refl
+        append_assoc (y ∷ xs) ys zs = ap (λ ws. y ∷ ws) (append_assoc xs ys zs)
 
--- ---- the least of a part, and its label
-pub least_none : (m : ℕ) (ks : List ℕ) → IsOneOf m ks → IsLeastSeen m ks []
-least_none m ks i = record { one = i; least = λ k j. absurd (none_in k j) }
+pub spread_other : (met : List ℕ) (label : ℕ) (before old after members : List ℕ) (i d : ℕ) → i < length met → (get_or after (get_or met i d) 0 ≡ length before → ⊥)
+    → AreSpread (take i met) label before old after members → AreSpread (take (i + 1) met) label before old after members
+spread_other met label before old after members i d l n h =
+    subst (λ z. AreSpread z label before old after members) (sym (take_more met i d l)) (spread_past (take i met) label (get_or met i d) before old after members h n)
 
-least_put : (m x : ℕ) (ks seen : List ℕ) → IsOneOf x ks → IsLeastSeen m ks seen → IsLeastSeen (min m x) ks (seen ++ (x ∷ []))
-least_put m x ks seen i h = record {
-  one = elim (min_one m x) [ inl e ↦ subst (λ y. IsOneOf y ks) (sym e) h.one | inr e ↦ subst (λ y. IsOneOf y ks) (sym e) i ];
-  least = λ k j. elim (last_split k x seen j) [ inl a ↦ (let b = h.least k a in omega (arith, b)) | inr e ↦ omega (arith, e) ];
-}
-  where
-    min_one : (a b : ℕ) → (min a b ≡ a) ⊎ (min a b ≡ b)
-    min_one a b = elim (cases_lt a b) [ inl l ↦ inl (omega (arith, l)) | inr l ↦ inr (omega (arith, l)) ]
+pub spread_more : (met : List ℕ) (label : ℕ) (before old after members : List ℕ) (i d : ℕ) → i < length met → get_or after (get_or met i d) 0 ≡ length before
+    → All (λ j. j < length before) met → label < length before → AreSpread (take i met) label before old after members
+    → AreSpread (take (i + 1) met) label before old (set after (get_or met i d) label) (members ++ (get_or met i d ∷ []))
+spread_more met label before old after members i d l b a m h =
+    subst (λ z. AreSpread z label before old (set after (get_or met i d) label) (members ++ (get_or met i d ∷ []))) (sym (take_more met i d l))
+    (spread_to (take i met) label (get_or met i d) before old after members h b (a i d l) m)
 
-pub least_more : (m : ℕ) (ks : List ℕ) (i d : ℕ) → i < length ks → IsLeastSeen m ks (take i ks) → IsLeastSeen (min m (get_or ks i d)) ks (take (i + 1) ks)
-least_more m ks i d l h = subst (λ z. IsLeastSeen (min m (get_or ks i d)) ks z) (sym (take_more ks i d l)) (least_put m (get_or ks i d) ks (take i ks) (one_at ks i d l) h)
+pub spread_end : (met : List ℕ) (label : ℕ) (before old after members : List ℕ) (i : ℕ) → length met ≤ i → AreSpread (take i met) label before old after members
+    → AreSpread met label before old after members
+spread_end met label before old after members i l h = subst (λ z. AreSpread z label before old after members) (take_all i met l) h
 
-pub least_end : (m : ℕ) (ks : List ℕ) (i : ℕ) → length ks ≤ i → IsLeastSeen m ks (take i ks) → IsLeastAmong m ks
-least_end m ks i l h = subst (λ z. IsLeastSeen m ks z) (take_all i ks l) h
+-- ---- all that an octagon meets
+pub met_numbers : (octs : List Bounds) (o : Bounds) (js : List ℕ) → AreThoseMeeting octs o js → All (λ j. j < length octs) js
+met_numbers octs o js m = all_of (λ j. j < length octs) js (λ j i. ((m.same j).0 i).0)
 
-pub labelled_none : (label : ℕ) (before : List ℕ) → AreLabelled label [] before before
-labelled_none label before = record { count = refl; given = λ k i. absurd (none_in k i); kept = λ k. inr refl }
+linked : (octs : List Bounds) (o : Bounds) (k j : ℕ) → slice_get octs k ≡ Some o → IsMeetingThere octs o j → IsMeetingAt octs k j
+linked octs o k j e m = meeting_at_back octs j k (record { first = m.other; second = o; at_first = m.there; at_second = e; meet = m.meet })
 
-labelled_put : (label x : ℕ) (seen before after : List ℕ) → x < length before → AreLabelled label seen before after
-    → AreLabelled label (seen ++ (x ∷ [])) before (set after x label)
-labelled_put label x seen before after l h = record {
-  count = length-set after x label ∙ h.count;
-  given = λ k i. elim (cases_eq k x) [ inl e ↦ here k e | inr n ↦ elim (last_split k x seen i) [ inl a ↦ get_or-set_other after x k label 0 n ∙ h.given k a | inr e ↦ absurd (n e) ] ];
-  kept = λ k. elim (cases_eq k x) [
-    | inl e ↦ inl (subst (λ y. IsOneOf y (seen ++ (x ∷ []))) (sym e) (one_last x seen))
-    | inr n ↦ elim (h.kept k) [ inl a ↦ inl (one_front k seen (x ∷ []) a) | inr e ↦ inr (get_or-set_other after x k label 0 n ∙ e) ]
-  ];
-}
-  where
-    here : (k : ℕ) → k ≡ x → get_or (set after x label) k 0 ≡ label
-    here k e = subst (λ y. get_or (set after x label) y 0 ≡ label) (sym e) (get_or-set_same after x label 0 (let c = h.count in omega (arith, c, l)))
-
-pub labelled_more : (label : ℕ) (ks before after : List ℕ) (i d : ℕ) → i < length ks → All (λ k. k < length before) ks → AreLabelled label (take i ks) before after
-    → AreLabelled label (take (i + 1) ks) before (set after (get_or ks i d) label)
-labelled_more label ks before after i d l n h =
-    subst (λ z. AreLabelled label z before (set after (get_or ks i d) label)) (sym (take_more ks i d l))
-    (labelled_put label (get_or ks i d) (take i ks) before after (n i d l) h)
-
-pub labelled_end : (label : ℕ) (ks before after : List ℕ) (i : ℕ) → length ks ≤ i → AreLabelled label (take i ks) before after → AreLabelled label ks before after
-labelled_end label ks before after i l h = subst (λ z. AreLabelled label z before after) (take_all i ks l) h
-
--- ---- part by part: an octagon is left or has its label, and what is left hangs together with nothing else
-pub record IsPartly (octs : List Bounds) (labels left : List ℕ) : Type 0 where
-  pub count : length labels ≡ length octs
-  pub within : AreNumbers octs left
-  pub each : (k : ℕ) → k < length octs → IsOneOf k left ⊎ IsLeastOf (IsMeetingAt octs) IsUpTo k (get_or labels k 0)
-  pub closed : (j k : ℕ) → IsOneOf j left → IsMeetingAt octs j k → IsOneOf k left
-
-pub partly_begun : (octs : List Bounds) (labels left : List ℕ) (n : ℕ) → n ≡ length octs → AreBelow n labels → AreBelow n left → IsPartly octs labels left
-partly_begun octs labels left n e a b = record {
-  count = a.many ∙ e;
-  within = all_of (λ j. j < length octs) left (λ j i. below j i);
-  each = λ k l. inl (all_in k l);
-  closed = λ j k i m. all_in k (second_within octs j k m);
-}
-  where
-    all_in : (k : ℕ) → k < length octs → IsOneOf k left
-    all_in k l = subst (λ y. IsOneOf y left) (b.each k (omega (arith, l, e))) (one_at left k 0 (let c = b.many in omega (arith, l, e, c)))
-
-    below_at : (k d : ℕ) → k < n → k < length left → get_or left k d ≡ k
-    below_at k d m l = get_or_default left k d 0 l ∙ b.each k m
-
-    below : (j : ℕ) → IsOneOf j left → j < length octs
-    below j i = of_all (λ j. j < length octs) left
-        (λ k d l. let c = b.many in let m : k < n = omega (arith, l, c) in subst (λ y. y < length octs) (sym (below_at k d m l)) (omega (arith, m, e))) j i
-
-module _ (octs : List Bounds) (labels after rest members left : List ℕ) (first m : ℕ) (h : IsPartly octs labels (rest ++ (first ∷ [])))
-    (f : IsFlooded octs first rest members left) (s : IsLeastAmong m members) (g : AreLabelled m members labels after) where
+-- ---- flooding
+module _ (octs : List Bounds) (first : ℕ) (before : List ℕ) (l : first < length octs) (p : ArePartly octs first before) (b : HasNoLabel octs before first) where
   abbrev Link : ℕ → ℕ → Type 0
   Link = IsMeetingAt octs
 
-  in_all : (x : ℕ) → IsOneOf x members → IsOneOf x (rest ++ (first ∷ []))
-  in_all x i = elim (f.from x i) [ inl e ↦ subst (λ y. IsOneOf y (rest ++ (first ∷ []))) (sym e) (one_last first rest) | inr a ↦ one_front x rest (first ∷ []) a ]
-
-  parted : (x : ℕ) → IsOneOf x (rest ++ (first ∷ [])) → IsOneOf x members ⊎ IsOneOf x left
-  parted x i = elim (last_split x first rest i) [ inl a ↦ f.each x a | inr e ↦ inl (subst (λ y. IsOneOf y members) (sym e) f.begun) ]
-
-  apart : (x y : ℕ) → IsOneOf x members → IsOneOf y left → Link x y → ⊥
-  apart x y i j r = f.closed x y (subst (IsOneOf x) (sym (take_all (length members) members (omega arith))) i) j r
-
-  grows : (x y : ℕ) → Link x y → IsOneOf x members → IsOneOf y members
-  grows x y r i = elim (parted y (h.closed x y (in_all x i) r)) [ inl a ↦ a | inr a ↦ absurd (apart x y i a r) ]
-
-  first_least : IsLeastOf Link IsUpTo first m
-  first_least = record {
-    reached = f.reached m s.one;
-    least = λ b r. s.least b (reaches_keeps Link (λ y. IsOneOf y members) grows first b r f.begun);
+  flooding_first : IsFlooding octs first before 0 (first ∷ []) (set before first first)
+  flooding_first = record {
+    count = length-set before first first ∙ p.count;
+    begun = one_only first;
+    each = λ j i. subst (λ k. IsMember octs first before (set before first first) k) (sym (only_one j first i)) (record {
+      within = l;
+      reached = reaches_self Link first;
+      bare = b;
+      label = get_or-set_same before first first 0 (let c = p.count in omega (arith, c, l));
+    });
+    kept = λ j. elim (cases_eq j first) [
+      | inl e ↦ inl (subst (λ k. IsOneOf k (first ∷ [])) (sym e) (one_only first))
+      | inr n ↦ inr (get_or-set_other before first j first 0 n)
+    ];
+    closed = λ j k i. absurd (none_in j i);
   }
 
-  labelled : (k : ℕ) → IsOneOf k members → IsLeastOf Link IsUpTo k (get_or after k 0)
-  labelled k i = subst (IsLeastOf Link IsUpTo k) (sym (g.given k i)) (least_shared Link IsUpTo (meeting_at_back octs) first k m (f.reached k i) first_least)
+  module _ (done : ℕ) (members labels : List ℕ) (o : Bounds) (met after more : List ℕ) (t : done < length members) (h : IsFlooding octs first before done members labels)
+      (at : slice_get octs (get_or members done 0) ≡ Some o) (m : AreThoseMeeting octs o met) (s : AreSpread met first labels members after more) where
+    abbrev now : ℕ
+    now = get_or members done 0
 
-  more_each : (k : ℕ) → k < length octs → IsOneOf k left ⊎ IsLeastOf Link IsUpTo k (get_or after k 0)
-  more_each k l = elim (h.each k l) [
-    | inl a ↦ elim (parted k a) [ inl i ↦ inr (labelled k i) | inr i ↦ inl i ]
-    | inr a ↦ elim (g.kept k) [ inl i ↦ inr (labelled k i) | inr e ↦ inr (subst (IsLeastOf Link IsUpTo k) (sym e) a) ]
-  ]
+    now_in : IsOneOf now members
+    now_in = one_at members done 0 t
 
-  more_closed_left : (j k : ℕ) → IsOneOf j left → Link j k → IsOneOf k left
-  more_closed_left j k i r = elim (parted k (h.closed j k (one_front j rest (first ∷ []) (f.rest j i)) r)) [
-    | inl a ↦ absurd (apart k j a i (meeting_at_back octs j k r))
-    | inr a ↦ a
-  ]
+    new_member : (j : ℕ) → IsOneOf j s.new → IsMember octs first before after j
+    new_member j i =
+        let there = ((m.same j).0 (s.from j i)) in
+        record {
+          within = there.0;
+          reached = reaches_then Link first now j (h.each now now_in).reached (reaches_link Link now j (linked octs o now j at there.1));
+          bare = was j i;
+          label = s.given j i;
+        }
+      where
+        was : (j : ℕ) → IsOneOf j s.new → HasNoLabel octs before j
+        was j i = elim (h.kept j) [
+          | inl a ↦ (let e = (h.each j a).label in let f = s.bare j i in let c = h.count in absurd (omega (arith, e, f, c, l)))
+          | inr e ↦ sym e ∙ (s.bare j i ∙ h.count)
+        ]
 
-  partly_next : IsPartly octs after left
-  partly_next = record {
-    count = g.count ∙ h.count;
-    within = all_of (λ j. j < length octs) left (λ j i. of_all (λ j. j < length octs) (rest ++ (first ∷ [])) h.within j (one_front j rest (first ∷ []) (f.rest j i)));
-    each = more_each;
-    closed = more_closed_left;
-  }
+    old_member : (j : ℕ) → IsOneOf j members → IsMember octs first before after j
+    old_member j i = let g = h.each j i in record {
+      within = g.within;
+      reached = g.reached;
+      bare = g.bare;
+      label = elim (s.kept j) [ inl a ↦ s.given j a | inr e ↦ e ∙ g.label ];
+    }
 
-pub partly_more : (octs : List Bounds) (labels after all rest members left : List ℕ) (first m : ℕ) → all ≡ rest ++ (first ∷ []) → IsPartly octs labels all
-    → IsFlooded octs first rest members left → IsLeastAmong m members → AreLabelled m members labels after → IsPartly octs after left
-partly_more octs labels after all rest members left first m e h f s g =
-    partly_next octs labels after rest members left first m (subst (IsPartly octs labels) e h) f s g
+    in_members : (j : ℕ) → IsOneOf j (members ++ s.new) → IsMember octs first before after j
+    in_members j i = elim (one_split j members s.new i) [ inl a ↦ old_member j a | inr a ↦ new_member j a ]
 
-pub partly_falls : (octs : List Bounds) (all rest members left : List ℕ) (first : ℕ) → all ≡ rest ++ (first ∷ []) → IsFlooded octs first rest members left → length left < length all
-partly_falls octs all rest members left first e f =
-    let a = length-append rest (first ∷ []) in let b = ap (λ (z : List ℕ). length z) e in let c = f.fewer in omega (arith, a, b, c)
+    taken : take (done + 1) (members ++ s.new) ≡ take done members ++ (now ∷ [])
+    taken = take-append-le (done + 1) members s.new (omega (arith, t)) ∙ take_more members done 0 t
 
-pub partly_end : (octs : List Bounds) (labels left : List ℕ) → left ≡ [] → IsPartly octs labels left → AreParts octs labels
-partly_end octs labels left e h = record {
-  each = h.count;
-  least = λ k l. elim (h.each k l) [ inl i ↦ absurd (none_in k (subst (IsOneOf k) e i)) | inr a ↦ a ];
+    -- a label that is there stays
+    stays : (k : ℕ) → HasNoLabel octs after k → HasNoLabel octs labels k
+    stays k e = elim (s.kept k) [
+      | inl a ↦ (let g = s.given k a in absurd (omega (arith, e, g, l)))
+      | inr q ↦ sym q ∙ e
+    ]
+
+    more_closed : (j k : ℕ) → IsOneOf j (take (done + 1) (members ++ s.new)) → Link j k → HasNoLabel octs after k → ⊥
+    more_closed j k i r e = elim (last_split j now (take done members) (subst (IsOneOf j) taken i)) [
+      | inl a ↦ h.closed j k a r (stays k e)
+      | inr q ↦ s.whole k ((m.same k).1 (second_within octs j k r, found (subst (λ y. Link y k) q r))) (let c = h.count in omega (arith, e, c))
+    ]
+      where
+        found : Link now k → IsMeetingThere octs o k
+        found w = let v = meeting_at_back octs now k w in record {
+          other = v.first;
+          there = v.at_first;
+          meet = subst (λ z. IsMeeting v.first z) (same v.second o v.at_second at) v.meet;
+        }
+          where
+            same : (a c : Bounds) → slice_get octs now ≡ Some a → slice_get octs now ≡ Some c → a ≡ c
+            same a c u v = same_there octs now a c u v
+
+    flooding_next : IsFlooding octs first before (done + 1) (members ++ s.new) after
+    flooding_next = record {
+      count = s.count ∙ h.count;
+      begun = one_front first members s.new h.begun;
+      each = in_members;
+      kept = λ j. elim (s.kept j) [
+        | inl a ↦ inl (one_back j members s.new a)
+        | inr e ↦ elim (h.kept j) [ inl a ↦ inl (one_front j members s.new a) | inr f ↦ inr (e ∙ f) ]
+      ];
+      closed = more_closed;
+    }
+
+    flooding_on : IsFlooding octs first before (done + 1) more after
+    flooding_on = subst (λ z. IsFlooding octs first before (done + 1) z after) (sym s.added) flooding_next
+
+    -- each turn is one member done, or gives members from what has no label
+    flooding_down : (length more + 2 * how_many (length octs) after) - (done + 1) < (length members + 2 * how_many (length octs) labels) - done
+    flooding_down =
+        let a = subst (λ n. length more + how_many n after ≡ length members + how_many n labels) h.count s.fewer in
+        let c = length-append members s.new in let d = ap (λ (z : List ℕ). length z) s.added in omega (arith, a, c, d, t)
+
+  -- ---- a part is labelled
+  module _ (members labels : List ℕ) (done : ℕ) (whole : length members ≤ done) (f : IsFlooding octs first before done members labels) where
+    all_done : (j : ℕ) → IsOneOf j members → IsOneOf j (take done members)
+    all_done j i = subst (IsOneOf j) (sym (take_all done members whole)) i
+
+    grows : (x y : ℕ) → Link x y → IsOneOf x members → IsOneOf y members
+    grows x y r i = elim (f.kept y) [
+      | inl a ↦ a
+      | inr e ↦ absurd (f.closed x y (all_done x i) r (e ∙ p.closed x y r (f.each x i).bare))
+    ]
+
+    bare_from : (k : ℕ) → k < length octs → HasNoLabel octs before k → first ≤ k
+    bare_from k m e = elim (p.each k m) [
+      | inl a ↦ a.1
+      | inr a ↦ (let u = a.least k (reaches_self Link k) in absurd (omega (arith, e, u, m)))
+    ]
+
+    first_least : IsLeastOf Link IsUpTo first first
+    first_least = record {
+      reached = reaches_self Link first;
+      least = λ k r. (let g = f.each k (reaches_keeps Link (λ y. IsOneOf y members) grows first k r f.begun) in bare_from k g.within g.bare);
+    }
+
+    member_least : (k : ℕ) → IsOneOf k members → IsLeastOf Link IsUpTo k (get_or labels k 0)
+    member_least k i =
+        let g = f.each k i in
+        subst (IsLeastOf Link IsUpTo k) (sym g.label) (least_shared Link IsUpTo (meeting_at_back octs) first k first g.reached first_least)
+
+    partly_part : ArePartly octs (first + 1) labels
+    partly_part = record {
+      count = f.count;
+      each = λ k m. elim (f.kept k) [
+        | inl a ↦ inr (member_least k a)
+        | inr e ↦ elim (cases_eq k first) [
+          | inl q ↦ inr (member_least k (subst (λ y. IsOneOf y members) (sym q) f.begun))
+          | inr n ↦ elim (p.each k m) [
+            | inl a ↦ inl (e ∙ a.0, (let u = a.1 in omega (arith, u, n)))
+            | inr a ↦ inr (subst (IsLeastOf Link IsUpTo k) (sym e) a)
+          ]
+        ]
+      ];
+      closed = λ j k r e. elim (f.kept j) [
+        | inl a ↦ (let g = (f.each j a).label in absurd (omega (arith, g, e, l)))
+        | inr q ↦ elim (f.kept k) [
+          | inl a ↦ absurd (f.closed k j (all_done k a) (meeting_at_back octs j k r) e)
+          | inr w ↦ w ∙ p.closed j k r (sym q ∙ e)
+        ]
+      ];
+    }
+
+pub flooding_begun : (octs : List Bounds) (first : ℕ) (before : List ℕ) → first < length octs → ArePartly octs first before → HasNoLabel octs before first
+    → IsFlooding octs first before 0 (first ∷ []) (set before first first)
+flooding_begun octs first before l p b = flooding_first octs first before l p b
+
+pub flooding_more : (octs : List Bounds) (first : ℕ) (before : List ℕ) → first < length octs → ArePartly octs first before → HasNoLabel octs before first
+    → (done : ℕ) (members labels : List ℕ) (o : Bounds) (met after more : List ℕ) → done < length members → IsFlooding octs first before done members labels
+    → slice_get octs (get_or members done 0) ≡ Some o → AreThoseMeeting octs o met → AreSpread met first labels members after more → IsFlooding octs first before (done + 1) more after
+flooding_more octs first before l p b done members labels o met after more t h at m s = flooding_on octs first before l p b done members labels o met after more t h at m s
+
+pub flooding_falls : (octs : List Bounds) (first : ℕ) (before : List ℕ) → first < length octs → ArePartly octs first before → HasNoLabel octs before first
+    → (done : ℕ) (members labels : List ℕ) (o : Bounds) (met after more : List ℕ) → done < length members → IsFlooding octs first before done members labels
+    → slice_get octs (get_or members done 0) ≡ Some o → AreThoseMeeting octs o met → AreSpread met first labels members after more
+    → (length more + 2 * how_many (length octs) after) - (done + 1) < (length members + 2 * how_many (length octs) labels) - done
+flooding_falls octs first before l p b done members labels o met after more t h at m s = flooding_down octs first before l p b done members labels o met after more t h at m s
+
+pub partly_more : (octs : List Bounds) (first : ℕ) (before : List ℕ) → first < length octs → ArePartly octs first before → HasNoLabel octs before first → (members labels : List ℕ) (done : ℕ)
+    → length members ≤ done → IsFlooding octs first before done members labels → ArePartly octs (first + 1) labels
+partly_more octs first before l p b members labels done w f = partly_part octs first before l p b members labels done w f
+
+pub member_within : (octs : List Bounds) (first : ℕ) (before : List ℕ) (done : ℕ) (members labels : List ℕ) → done < length members → IsFlooding octs first before done members labels
+    → get_or members done 0 < length octs
+member_within octs first before done members labels t h = (h.each (get_or members done 0) (one_at members done 0 t)).within
+
+-- ---- octagon by octagon
+pub partly_none : (octs : List Bounds) (labels : List ℕ) → length labels ≡ length octs → ((k : ℕ) → k < length octs → HasNoLabel octs labels k) → ArePartly octs 0 labels
+partly_none octs labels c b = record {
+  count = c;
+  each = λ k l. inl (b k l, omega arith);
+  closed = λ j k r e. b k (second_within octs j k r);
 }
 
--- what is taken off the end, and what stays, are numbers of octagons
-pub rest_within : (octs : List Bounds) (labels all rest : List ℕ) (first : ℕ) → all ≡ rest ++ (first ∷ []) → IsPartly octs labels all → AreNumbers octs rest
-rest_within octs labels all rest first e h =
-    all_of (λ j. j < length octs) rest (λ j i. of_all (λ j. j < length octs) all h.within j (subst (IsOneOf j) (sym e) (one_front j rest (first ∷ []) i)))
+pub partly_past : (octs : List Bounds) (first : ℕ) (labels : List ℕ) → get_or labels first 0 < length octs → ArePartly octs first labels → ArePartly octs (first + 1) labels
+partly_past octs first labels l p = record {
+  count = p.count;
+  each = λ k m. elim (p.each k m) [ inl a ↦ inl (a.0, later k a.0 a.1) | inr a ↦ inr a ];
+  closed = p.closed;
+}
+  where
+    later : (k : ℕ) → HasNoLabel octs labels k → first ≤ k → first + 1 ≤ k
+    later k e u = elim (cases_eq k first) [
+      | inl q ↦ (let w = subst (λ y. HasNoLabel octs labels y) q e in absurd (omega (arith, w, l)))
+      | inr n ↦ omega (arith, u, n)
+    ]
 
-pub first_within : (octs : List Bounds) (labels all rest : List ℕ) (first : ℕ) → all ≡ rest ++ (first ∷ []) → IsPartly octs labels all → first < length octs
-first_within octs labels all rest first e h = of_all (λ j. j < length octs) all h.within first (subst (IsOneOf first) (sym e) (one_last first rest))
+pub bare_first : (octs : List Bounds) (first : ℕ) (labels : List ℕ) → first < length octs → (get_or labels first 0 < length octs → ⊥) → ArePartly octs first labels → HasNoLabel octs labels first
+bare_first octs first labels l n p = elim (p.each first l) [
+  | inl a ↦ a.0
+  | inr a ↦ absurd (n (let u = a.least first (reaches_self (IsMeetingAt octs) first) in omega (arith, u, l)))
+]
+
+pub partly_end : (octs : List Bounds) (labels : List ℕ) (upto : ℕ) → length octs ≤ upto → ArePartly octs upto labels → AreParts octs labels
+partly_end octs labels upto l p = record {
+  each = p.count;
+  least = λ k m. elim (p.each k m) [ inl a ↦ (let u = a.1 in absurd (omega (arith, u, l, m))) | inr a ↦ a ];
+}
+
+-- ---- what is read of a list, whatever stands past its end
+pub read_is : (xs : List ℕ) (i r : ℕ) → i < length xs → r ≡ get_or xs i r → get_or xs i 0 ≡ r
+read_is [] i r l e = absurd (omega (arith, l))
+read_is (x ∷ xs) zero r l e = sym e
+read_is (x ∷ xs) (suc i) r l e = read_is xs i r (omega (arith, l)) e
+
+pub oct_there : (octs : List Bounds) (k : ℕ) (o : Bounds) → k < length octs → o ≡ get_or octs k o → slice_get octs k ≡ Some o
+oct_there octs k o l e = slice_get_read octs (length octs) k o refl l e
+
+-- ---- a turn of the flood, as the code has it
+module _ (octs bins : List Bounds) (first : ℕ) (before : List ℕ) (l : first < length octs) (p : ArePartly octs first before) (b : HasNoLabel octs before first) (done r : ℕ)
+    (members labels : List ℕ) (o : Bounds) (met seen after more : List ℕ) (t : done < length members) (h : IsFlooding octs first before done members labels)
+    (read : r ≡ get_or members done r) (oct : o ≡ get_or octs r o) (same : bins ≡ octs) (m : AreThoseMeeting bins o met) (all : seen ≡ met)
+    (s : AreSpread seen first labels members after more) where
+  at_now : slice_get octs (get_or members done 0) ≡ Some o
+  at_now =
+      let e = read_is members done r t read in
+      subst (λ k. slice_get octs k ≡ Some o) (sym e)
+      (oct_there octs r o (subst (λ k. k < length octs) e (member_within octs first before done members labels t h)) oct)
+
+  met_now : AreThoseMeeting octs o met
+  met_now = subst (λ z. AreThoseMeeting z o met) same m
+
+  spread_now : AreSpread met first labels members after more
+  spread_now = subst (λ z. AreSpread z first labels members after more) all s
+
+  turn : IsFlooding octs first before (done + 1) more after
+  turn = flooding_more octs first before l p b done members labels o met after more t h at_now met_now spread_now
+
+  turn_falls : (length more + 2 * how_many (length octs) after) - (done + 1) < (length members + 2 * how_many (length octs) labels) - done
+  turn_falls = flooding_falls octs first before l p b done members labels o met after more t h at_now met_now spread_now
+
+pub flooding_turn : (octs bins : List Bounds) (first : ℕ) (before : List ℕ) → first < length octs → ArePartly octs first before → HasNoLabel octs before first → (done r : ℕ)
+    (members labels : List ℕ) (o : Bounds) (met seen after more : List ℕ) → done < length members → IsFlooding octs first before done members labels → r ≡ get_or members done r
+    → o ≡ get_or octs r o → bins ≡ octs → AreThoseMeeting bins o met → seen ≡ met → AreSpread seen first labels members after more → IsFlooding octs first before (done + 1) more after
+flooding_turn octs bins first before l p b done r members labels o met seen after more t h read oct same m all s =
+    turn octs bins first before l p b done r members labels o met seen after more t h read oct same m all s
+
+pub flooding_turn_falls : (octs bins : List Bounds) (first : ℕ) (before : List ℕ) → first < length octs → ArePartly octs first before → HasNoLabel octs before first → (done r : ℕ)
+    (members labels : List ℕ) (o : Bounds) (met seen after more : List ℕ) → done < length members → IsFlooding octs first before done members labels → r ≡ get_or members done r
+    → o ≡ get_or octs r o → bins ≡ octs → AreThoseMeeting bins o met → seen ≡ met → AreSpread seen first labels members after more
+    → (length more + 2 * how_many (length octs) after) - (done + 1) < (length members + 2 * how_many (length octs) labels) - done
+flooding_turn_falls octs bins first before l p b done r members labels o met seen after more t h read oct same m all s =
+    turn_falls octs bins first before l p b done r members labels o met seen after more t h read oct same m all s

@@ -1,17 +1,17 @@
-// The parts of a list of octagons: from each octagon that has no part yet, all that can be reached is found. Each octagon
-// that is found is tried once against those that are left.
-ghost use Rattle.std.specs.Prelude.{◌≡◌, ◌<◌, ◌^◌, length, IfOk};
+// The parts of a list of octagons: from each octagon that has no label yet, all that can be reached is labelled. Each octagon is
+// asked once which others it meets.
+ghost use Rattle.std.specs.Prelude.{◌≡◌, ◌+◌, ◌<◌, length, get_or, IfOk};
 ghost use Rattle.std.specs.List.{All};
-ghost use Rattle.classes.specs.Classes.{IsOneOf};
 ghost use Rattle.islands.specs.Parts.{AreParts};
-ghost use Rattle.islands.specs.Inner.Flood.{AreNumbers, AreBelow, IsSplit, IsFlooded, IsLeastAmong, AreLabelled};
+ghost use Rattle.islands.specs.Inner.Flood.{ArePartly, AreSpread};
 
+use bins::Bins;
 use grid_num::Memory;
 use octagon::Oct;
 use std::alloc::Global;
 
 /// For each octagon the place of the first octagon of its part: of all that hang together with it, a common point being
-/// enough. Time is quadratic in the octagons.
+/// enough.
 ///
 /// # Errors
 ///
@@ -20,107 +20,85 @@ pub fn parts(alloc: Global, octs: &[Oct]) -> Result<Vec<u32>, Memory>
     ensures { IfOk result (λ labels. AreParts octs.now labels.items) }
 {
     let count = count_of(octs)?;
-    let mut labels = numbers(alloc, count)?;
-    let mut left = numbers(alloc, count)?;
-    'each: while let Some(first) = left.pop() {
-        let part = flood(alloc, octs, first, left)?;
-        give(&mut labels, &part.members, least(first, &part.members));
-        left = part.left;
+    let bins = Bins::of(alloc, octs)?;
+    let mut labels = vec![in alloc; count; octs.len()]?;
+    'each: for first in 0..count {
+        labels = with_part(alloc, octs, &bins, labels, first)?;
     }
     Ok(labels)
 }
 
-// How many octagons there are, where a label can tell their places.
+// How many octagons there are, where a label can tell their places. As a label it tells that an octagon has none yet.
 fn count_of(octs: &[Oct]) -> Result<u32, Memory>
     ensures { IfOk result (λ count. count ≡ length octs.now) }
 {
     u32::try_from(octs.len()).map_err(|_| Memory)
 }
 
-// The numbers below the count, upward.
-fn numbers(alloc: Global, count: u32) -> Result<Vec<u32>, Memory>
-    ensures { IfOk result (λ all. AreBelow count all.items) }
-{
-    let mut all = Vec::new(alloc);
-    'each: for k in 0..count {
-        all.push(k)?;
-    }
-    Ok(all)
-}
-
-// What is found of a part, and what is left outside it.
-#[derive(Drop)]
-struct Found {
-    members: Vec<u32>,
-    left: Vec<u32>,
-}
-
-// All that can be reached from the first octagon among those that are left.
-fn flood(alloc: Global, octs: &[Oct], first: u32, left: Vec<u32>) -> Result<Found, Memory>
+// The labels once the part of the octagon has its label too.
+fn with_part(
+    alloc: Global,
+    octs: &[Oct],
+    bins: &Bins,
+    labels: Vec<u32>,
+    first: u32,
+) -> Result<Vec<u32>, Memory>
+    requires bins { bins.now ≡ octs.now }
     requires first { first < length octs.now }
-    requires numbers { AreNumbers octs.now left.items }
-    ensures part { IfOk result (λ part. IsFlooded octs.now first left.items part.members.items part.left.items) }
-    ensures members { IfOk result (λ part. AreNumbers octs.now part.members.items) }
-    ensures left { IfOk result (λ part. AreNumbers octs.now part.left.items) }
+    requires partly { ArePartly octs.now first labels.items }
+    ensures { IfOk result (λ new. ArePartly octs.now (first + 1) new.items) }
 {
-    let mut left = left;
+    if (labels[first as usize] as usize) < octs.len() {
+        return Ok(labels);
+    }
+    flooded(alloc, octs, bins, labels, first)
+}
+
+// The labels once all that can be reached from the octagon has its place as a label.
+fn flooded(
+    alloc: Global,
+    octs: &[Oct],
+    bins: &Bins,
+    labels: Vec<u32>,
+    first: u32,
+) -> Result<Vec<u32>, Memory>
+    requires bins { bins.now ≡ octs.now }
+    requires first { first < length octs.now }
+    requires partly { ArePartly octs.now first labels.items }
+    requires bare { get_or labels.items first 0 ≡ length octs.now }
+    ensures { IfOk result (λ new. ArePartly octs.now (first + 1) new.items) }
+{
+    let mut labels = labels;
     let mut members = Vec::new(alloc);
+    let mut met = Vec::new(alloc);
+    labels[first as usize] = first;
     members.push(first)?;
     let mut done = 0;
     'each: while done < members.len() {
-        let mut parted = split(alloc, octs, members[done], &left)?;
-        members.append(&mut parted.met)?;
-        left = parted.rest;
+        bins.meeting(&octs[members[done] as usize], &mut met)?;
+        spread(&met, first, &mut labels, &mut members)?;
         done += 1;
     }
-    Ok(Found { members, left })
+    Ok(labels)
 }
 
-// Those that are left, as far as they meet an octagon, and the others.
-#[derive(Drop)]
-struct Parted {
-    met: Vec<u32>,
-    rest: Vec<u32>,
-}
-
-// Tries octagon k against those that are left.
-fn split(alloc: Global, octs: &[Oct], k: u32, left: &[u32]) -> Result<Parted, Memory>
-    requires k { k < length octs.now }
-    requires numbers { AreNumbers octs.now left.now }
-    ensures parted { IfOk result (λ s. IsSplit octs.now k left.now s.met.items s.rest.items) }
-    ensures met { IfOk result (λ s. AreNumbers octs.now s.met.items) }
-    ensures rest { IfOk result (λ s. AreNumbers octs.now s.rest.items) }
+// Gives the label to those that have none, and adds them to the members.
+fn spread(
+    met: &[u32],
+    label: u32,
+    labels: &mut Vec<u32>,
+    members: &mut Vec<u32>,
+) -> Result<(), Memory>
+    requires met { All (λ j. j < length labels.old.items) met.now }
+    requires label { label < length labels.old.items }
+    ensures { IfOk result (λ _. AreSpread met.now label labels.old.items members.old.items labels.new.items members.new.items) }
 {
-    let mut met = Vec::new(alloc);
-    let mut rest = Vec::new(alloc);
-    'each: for j in left {
-        if octs[k as usize].meets(&octs[*j as usize]) {
-            met.push(*j)?;
-        } else {
-            rest.push(*j)?;
+    let count = labels.len();
+    'each: for j in met {
+        if labels[*j as usize] as usize == count {
+            labels[*j as usize] = label;
+            members.push(*j)?;
         }
     }
-    Ok(Parted { met, rest })
-}
-
-// The least of the members, which are the first one and more.
-fn least(first: u32, members: &[u32]) -> u32
-    requires { IsOneOf first members.now }
-    ensures { IsLeastAmong result members.now }
-{
-    let mut least = first;
-    'each: for k in members {
-        least = least.min(*k);
-    }
-    least
-}
-
-// Gives each of the members the label.
-fn give(labels: &mut Vec<u32>, members: &[u32], label: u32)
-    requires { All (λ k. k < length labels.old.items) members.now }
-    ensures { AreLabelled label members.now labels.old.items labels.new.items }
-{
-    'each: for k in members {
-        labels[*k as usize] = label;
-    }
+    Ok(())
 }

@@ -13,8 +13,8 @@ use Rattle.islands.specs.Held.{IsHeld}
 use Rattle.islands.proofs.PartLaws.{meeting_at_back, parts_same}
 use Rattle.board_language.specs.declared.IslandMode.{IslandMode}
 use Rattle.board_language.specs.declared.IslandMode.TheVariants.{Below}
-use Rattle.components.specs.Kept.{IsStaying, IsSparedPart, labelled}
-use Rattle.components.specs.Laws.{CountLaw}
+use Rattle.components.specs.Kept.{IsStaying, IsSparedPart, with_label}
+use Rattle.components.specs.Laws.{SparedCountLaw}
 use Rattle.plane.specs.Plane.{IsOct}
 use Rattle.cores.specs.Room.{IsInRoom}
 use Rattle.open_laws.specs.Open.{top_left}
@@ -81,7 +81,7 @@ count_alike P Q n f a = record {
   count = a.count;
 }
 
-pub large_is : CountLaw → (rows octs : List Bounds) (area wide n : ℕ) (flag : Bool) → ((x y : ℤ) → HasPoint rows x y ↔ HasPoint octs x y) → IsCount (HasPoint rows) n
+pub large_is : SparedCountLaw → (rows octs : List Bounds) (area wide n : ℕ) (flag : Bool) → ((x y : ℤ) → HasPoint rows x y ↔ HasPoint octs x y) → IsCount (HasPoint rows) n
     → wide ≡ area → (flag ≡ true) ↔ (250000 * wide ≤ n) → (flag ≡ true) ↔ IsSparedPart octs (Below area)
 large_is law rows octs area wide n flag f a same t =
     let c = law octs n area (count_alike (HasPoint rows) (HasPoint octs) n f a) in (
@@ -124,8 +124,8 @@ are_staying edges anchors live mode cells pieces labels held begun spared a same
 
 -- the piece that is its part's first is spared where its part is
 pub spared_at : (mode : IslandMode) (pieces : List Bounds) (labels : List ℕ) (m label : ℕ) (flag : Bool) → label ≡ get_or labels m 0 → label ≡ m
-    → (flag ≡ true) ↔ IsSparedPart (labelled labels label pieces) mode → (flag ≡ true) ↔ IsSparedAt mode pieces labels m
+    → (flag ≡ true) ↔ IsSparedPart (with_label labels label pieces) mode → (flag ≡ true) ↔ IsSparedAt mode pieces labels m
 spared_at mode pieces labels m label flag at own h = (
-  λ e. record { own = sym at ∙ own; spared = subst (λ (x : ℕ). IsSparedPart (labelled labels x pieces) mode) own (h.0 e) },
-  λ s. h.1 (subst (λ (x : ℕ). IsSparedPart (labelled labels x pieces) mode) (sym own) s.spared),
+  λ e. record { own = sym at ∙ own; spared = subst (λ (x : ℕ). IsSparedPart (with_label labels x pieces) mode) own (h.0 e) },
+  λ s. h.1 (subst (λ (x : ℕ). IsSparedPart (with_label labels x pieces) mode) (sym own) s.spared),
 )

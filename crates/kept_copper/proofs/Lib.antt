@@ -1,3 +1,4 @@
 pub mod Reaches
 pub mod Flags
 pub mod Decided
+pub mod Apart

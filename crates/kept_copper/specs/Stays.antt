@@ -7,7 +7,7 @@ use Rattle.open_laws.specs.Open.{top_left}
 use Rattle.islands.specs.Parts.{AreParts}
 use Rattle.islands.specs.Inside.{IsWithinEdges}
 use Rattle.board_language.specs.declared.IslandMode.{IslandMode}
-use Rattle.components.specs.Kept.{IsSparedPart, labelled, IsStaying}
+use Rattle.components.specs.Kept.{IsSparedPart, with_label, IsStaying}
 
 -- the flags tell of each cell whether it stays, by the parts of the pieces
 pub record AreStaying (edges : List Edge) (anchors : List Copper) (live : List Bounds) (mode : IslandMode) (cells pieces : List Bounds)
@@ -20,17 +20,17 @@ pub record AreStaying (edges : List Edge) (anchors : List Copper) (live : List B
 -- ---- at the first cell of a part
 
 -- the place is that of the first of its part
-abbrev pub IsFirst : List ℕ → ℕ → Type 0
-IsFirst labels m = get_or labels m 0 ≡ m
+abbrev pub IsFirstOfPart : List ℕ → ℕ → Type 0
+IsFirstOfPart labels m = get_or labels m 0 ≡ m
 
 -- the cell is the first of its part, and begins inside the board
 pub record IsBegun (edges : List Edge) (cells : List Bounds) (labels : List ℕ) (m : ℕ) : Type 0 where
-  pub own : IsFirst labels m
+  pub own : IsFirstOfPart labels m
   pub cell : Bounds
   pub there : slice_get cells m ≡ Some cell
   pub inside : IsWithinEdges edges (top_left cell)
 
 -- the piece is the first of its part, and the mode spares the part
 pub record IsSparedAt (mode : IslandMode) (pieces : List Bounds) (labels : List ℕ) (m : ℕ) : Type 0 where
-  pub own : IsFirst labels m
-  pub spared : IsSparedPart (labelled labels m pieces) mode
+  pub own : IsFirstOfPart labels m
+  pub spared : IsSparedPart (with_label labels m pieces) mode

@@ -1,17 +1,28 @@
 // Octagons chosen by flags and by labels.
 ghost use Rattle.std.specs.Prelude.{◌≡◌, ◌++◌, ◌∷◌, [], cond, length, IfOk};
-ghost use Rattle.components.specs.Kept.{flagged, labelled};
+ghost use Rattle.grid_sets.specs.Points.{AreApart};
+ghost use Rattle.components.specs.Kept.{flagged, with_label};
 
 use grid_num::Memory;
 use octagon::Oct;
 use std::alloc::Global;
 
-/// The octagons at the places whose flag is set, in their order.
+/// The octagons at the places whose flag is set, in their order. Where no two of all have a common grid point, no two of these have.
 ///
 /// # Errors
 ///
 /// Want of memory.
 pub fn kept_cells(alloc: Global, cells: &[Oct], flags: &[bool]) -> Result<Vec<Oct>, Memory>
+    requires { length flags.now ≡ length cells.now }
+    ensures value { IfOk result (λ v. v.items ≡ flagged flags.now cells.now) }
+    ensures apart { IfOk result (λ v. AreApart cells.now → AreApart v.items) }
+{
+    let kept = chosen(alloc, cells, flags)?;
+    Ok(kept)
+}
+
+// The octagons at the places whose flag is set.
+fn chosen(alloc: Global, cells: &[Oct], flags: &[bool]) -> Result<Vec<Oct>, Memory>
     requires { length flags.now ≡ length cells.now }
     ensures { IfOk result (λ v. v.items ≡ flagged flags.now cells.now) }
 {
@@ -29,7 +40,7 @@ pub fn kept_cells(alloc: Global, cells: &[Oct], flags: &[bool]) -> Result<Vec<Oc
 /// Want of memory.
 pub fn of_label(alloc: Global, octs: &[Oct], labels: &[u32], label: u32) -> Result<Vec<Oct>, Memory>
     requires { length labels.now ≡ length octs.now }
-    ensures { IfOk result (λ v. v.items ≡ labelled labels.now label octs.now) }
+    ensures { IfOk result (λ v. v.items ≡ with_label labels.now label octs.now) }
 {
     let mut part = Vec::new(alloc);
     'each: for k in 0..octs.len() {

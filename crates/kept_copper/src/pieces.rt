@@ -3,7 +3,7 @@ ghost use Rattle.std.specs.Prelude.{◌≡◌, ◌≤◌, ◌^◌, ◌++◌, ℕ
 ghost use Rattle.std.specs.List.{All};
 ghost use Rattle.plane.specs.Narrow.{IsNearZero};
 ghost use Rattle.octagon.specs.Room.{IsAround};
-ghost use Rattle.grid_sets.specs.Points.{HasPoint};
+ghost use Rattle.grid_sets.specs.Points.{HasPoint, AreApart};
 ghost use Rattle.fills.specs.Fills.{brushed, task_of};
 ghost use Rattle.components.specs.Cells.{AreCells};
 ghost use Rattle.kept_copper.specs.Pieces.{IsFillOfCells};
@@ -18,7 +18,8 @@ use scan_rows::Rows;
 use std::alloc::Global;
 
 /// The fill whose kept centres are the grid points of these cells, and whose spokes are these: the cells of the points, made
-/// anew and grown by the brush of the radius, then the spokes, and which of them hang together. Cells lie within 2^31 units of 0.
+/// anew and grown by the brush of the radius, then the spokes, and which of them hang together. Cells lie within 2^31 units of 0,
+/// and no two have a common grid point.
 ///
 /// # Errors
 ///
@@ -31,10 +32,11 @@ pub fn fill_of_cells(
     radius: u32,
 ) -> Result<Fill, Memory>
     requires kept { (x y : ℤ) → HasPoint kept.now x y → IsNearZero (2 ^ 31) x × IsNearZero (2 ^ 31) y }
+    requires apart { AreApart kept.now }
     requires radius { radius ≤ 2 ^ 31 }
     ensures { IfOk result (λ f. IsFillOfCells (task_of task) kept.now spokes.items radius f) }
 {
-    let rows = Rows::of_octs(alloc, kept)?;
+    let rows = Rows::of_apart(alloc, kept)?;
     let cells = cell_octs(alloc, &rows)?;
     let count = count_of(&spokes)?;
     let pieces = joined(all_grown(alloc, &cells, radius)?, spokes)?;

@@ -9,7 +9,7 @@ ghost use Rattle.board_language.specs.declared.IslandMode.TheVariants.{Below};
 ghost use Rattle.islands.specs.Held.{IsAnchorInRoom};
 ghost use Rattle.islands.specs.Inside.{IsWithinEdges, IsEdgeInRoom};
 ghost use Rattle.islands.specs.Parts.{AreParts};
-ghost use Rattle.components.specs.Kept.{IsSparedPart, labelled};
+ghost use Rattle.components.specs.Kept.{IsSparedPart, with_label};
 ghost use Rattle.kept_copper.specs.Stays.{AreStaying, IsBegun, IsSparedAt};
 
 use crate::labels::of_label;
@@ -148,7 +148,7 @@ fn is_spared(
     label: u32,
 ) -> Result<bool, Memory>
     requires { length labels.now ≡ length pieces.now }
-    ensures { IfOk result (λ flag. (flag ≡ true) ↔ IsSparedPart (labelled labels.now label pieces.now) islands) }
+    ensures { IfOk result (λ flag. (flag ≡ true) ↔ IsSparedPart (with_label labels.now label pieces.now) islands) }
 {
     match islands {
         IslandMode::Remove => Ok(false),
@@ -166,7 +166,7 @@ fn is_large_part(
     label: u32,
 ) -> Result<bool, Memory>
     requires { length labels.now ≡ length pieces.now }
-    ensures { IfOk result (λ flag. (flag ≡ true) ↔ IsSparedPart (labelled labels.now label pieces.now) (Below area)) }
+    ensures { IfOk result (λ flag. (flag ≡ true) ↔ IsSparedPart (with_label labels.now label pieces.now) (Below area)) }
 {
     let part = of_label(alloc, pieces, labels, label)?;
     is_large(alloc, area, part.as_slice())

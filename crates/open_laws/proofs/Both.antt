@@ -7,7 +7,7 @@ use Rattle.plane.specs.Plane.{PlanePoint, Bounds, In, StrictlyIn, positive_produ
 use Rattle.grid_num.proofs.Products.{mul_suc, mul_add, mul_sub, mul_le, mul_lt}
 use Rattle.plane.proofs.Points.{mul_mul, mul_swap}
 use Rattle.plane.proofs.Near.{StrictlyIn-In}
-use Rattle.open_laws.specs.Open.{IsEntering, AreOverlapping}
+use Rattle.open_laws.specs.Open.{ReachesInto, AreOverlapping}
 use Rattle.open_laws.specs.Laws.{OpenLaw}
 
 -- m parts of x at scale j and one of z at scale k
@@ -192,7 +192,7 @@ far_in m b p z h f =
     }
 
 pub open_both : OpenLaw
-unfolding IsEntering AreOverlapping
+unfolding ReachesInto AreOverlapping
 open_both b c z i = (
   λ e. let m = far e.0.scale z.scale b z.x z.y in (mixed_point m.0 e.0 z, far_in m.0 b e.0 z e.1 m.1, near_in m.0 c e.0 z e.2 i),
   λ o. (o.0, o.1, StrictlyIn-In c o.0 o.2),

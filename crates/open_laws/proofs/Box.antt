@@ -13,7 +13,7 @@ use Rattle.plane.proofs.Equal.{equal}
 use Rattle.plane.proofs.Tight.{top_left_x, same_points}
 use Rattle.plane.proofs.Moved.{tight_box_law}
 use Rattle.octagon.proofs.Separation.{separation_law}
-use Rattle.open_laws.specs.Open.{IsEntering}
+use Rattle.open_laws.specs.Open.{ReachesInto}
 use Rattle.open_laws.specs.Laws.{OpenBoxLaw}
 
 -- the rectangle of the inner grid points
@@ -77,8 +77,8 @@ shrunk_plus x0 x1 y0 y1 = regrown x0 x1 y0 y1 (pos (up2_of 1)) up2_one
 
 opened_box : (x0 x1 y0 y1 : ℤ) (inner o : Bounds) → IsTight inner
     → ((x y : ℤ) → Within inner x y ↔ StrictlyWithin (box_of x0 x1 y0 y1) x y) → IsTight o
-    → IsEntering (box_of x0 x1 y0 y1) o ↔ AreNear 1 inner o
-unfolding IsEntering
+    → ReachesInto (box_of x0 x1 y0 y1) o ↔ AreNear 1 inner o
+unfolding ReachesInto
 opened_box x0 x1 y0 y1 inner o t s u =
     let e : sum_of inner (ball_of 1) ≡ box_of x0 x1 y0 y1 = subst (λ (c : Bounds). sum_of c (ball_of 1) ≡ box_of x0 x1 y0 y1) (sym (inner_is x0 x1 y0 y1 inner t s)) (shrunk_plus x0 x1 y0 y1) in
     let r = separation_law 1 o inner (omega arith) u t in (
@@ -135,8 +135,8 @@ whole_in k b x y w = record {
   d_high = omega (arith, ints, mul_mul k 2 b.d1, w.d_high);
 }
 
-finer : (b c : Bounds) → IsEntering (times 2 b) (times 2 c) ↔ IsEntering b c
-unfolding IsEntering
+finer : (b c : Bounds) → ReachesInto (times 2 b) (times 2 c) ↔ ReachesInto b c
+unfolding ReachesInto
 finer b c = (
   λ i. (
     record { x = i.0.x; y = i.0.y; scale = i.0.scale * 2; positive = positive_product i.0.scale 2 i.0.positive (omega arith) },
@@ -164,20 +164,20 @@ doubled_box x0 x1 y0 y1 = equal (times 2 (box_of x0 x1 y0 y1)) (box_of (pos 2 *�
 
 halved_box : (x0 x1 y0 y1 : ℤ) (inner o : Bounds) → IsTight inner
     → ((x y : ℤ) → Within inner x y ↔ StrictlyWithin (box_of (pos 2 *ℤ x0) (pos 2 *ℤ x1) (pos 2 *ℤ y0) (pos 2 *ℤ y1)) x y) → IsTight o
-    → IsEntering (box_of x0 x1 y0 y1) o ↔ AreNear 1 inner (times 2 o)
+    → ReachesInto (box_of x0 x1 y0 y1) o ↔ AreNear 1 inner (times 2 o)
 halved_box x0 x1 y0 y1 inner o t s u =
     let r = opened_box (pos 2 *ℤ x0) (pos 2 *ℤ x1) (pos 2 *ℤ y0) (pos 2 *ℤ y1) inner (times 2 o) t s (IsTight-times 2 o u) in
     let f = finer (box_of x0 x1 y0 y1) o in
     let e = doubled_box x0 x1 y0 y1 in (
-      λ i. r.0 (subst (λ (c : Bounds). IsEntering c (times 2 o)) e (f.1 i)),
-      λ n. f.0 (subst (λ (c : Bounds). IsEntering c (times 2 o)) (sym e) (r.1 n)),
+      λ i. r.0 (subst (λ (c : Bounds). ReachesInto c (times 2 o)) e (f.1 i)),
+      λ n. f.0 (subst (λ (c : Bounds). ReachesInto c (times 2 o)) (sym e) (r.1 n)),
     )
 
 -- ---- where no point is strictly in the rectangle
 flat_box : (x0 x1 y0 y1 : ℤ) (o : Bounds)
     → ((x y : ℤ) → StrictlyWithin (box_of (pos 2 *ℤ x0) (pos 2 *ℤ x1) (pos 2 *ℤ y0) (pos 2 *ℤ y1)) x y → ⊥)
-    → IsEntering (box_of x0 x1 y0 y1) o → ⊥
-unfolding IsEntering
+    → ReachesInto (box_of x0 x1 y0 y1) o → ⊥
+unfolding ReachesInto
 flat_box x0 x1 y0 y1 o n i =
     let p = i.0 in
     let k = p.scale in

@@ -7,32 +7,32 @@ use Rattle.classes.specs.Classes.{Reaches}
 use Rattle.grid_sets.specs.Rows.{Row, AreRows}
 use Rattle.grid_sets.specs.Bands.{Band, AreBandsOf}
 use Rattle.grid_sets.specs.Cells.{cells_of}
-use Rattle.open_laws.specs.Open.{IsEntering, AreOverlapping, IsLinkedIn, AreFirsts}
+use Rattle.open_laws.specs.Open.{ReachesInto, AreOverlapping, IsLinkedIn, AreFirsts}
 
 -- the brush at a grid point enters a tight octagon, and overlaps it if it has an inside, exactly where the grid point is
 -- strictly within the octagon plus the brush
 pub record OpenBrushLaw : Type 0 where
   pub octagon : (b : ℕ) (c : Bounds) (x y : ℤ) → 1 ≤ b → IsTight c
-      → IsEntering (moved (ball_of b) x y) c ↔ StrictlyWithin (sum_of c (ball_of b)) x y
+      → ReachesInto (moved (ball_of b) x y) c ↔ StrictlyWithin (sum_of c (ball_of b)) x y
   pub inside : (b : ℕ) (c : Bounds) (x y : ℤ) (p : PlanePoint) → 1 ≤ b → IsTight c → StrictlyIn c p
       → AreOverlapping (moved (ball_of b) x y) c ↔ StrictlyWithin (sum_of c (ball_of b)) x y
 
 -- bounds that have an inside are entered exactly where they are overlapped
 abbrev pub OpenLaw : Type 0
-OpenLaw = (b c : Bounds) (p : PlanePoint) → StrictlyIn c p → IsEntering b c ↔ AreOverlapping b c
+OpenLaw = (b c : Bounds) (p : PlanePoint) → StrictlyIn c p → ReachesInto b c ↔ AreOverlapping b c
 
 -- A rectangle enters a tight octagon exactly where the octagon of the rectangle's inner grid points is near it at 1. There
 -- may be no inner grid points: in half the unit there are some, unless no point at all is strictly in the rectangle.
 pub record OpenBoxLaw : Type 0 where
   pub opened : (x0 x1 y0 y1 : ℤ) (inner o : Bounds) → IsTight inner
       → ((x y : ℤ) → Within inner x y ↔ StrictlyWithin (box_of x0 x1 y0 y1) x y) → IsTight o
-      → IsEntering (box_of x0 x1 y0 y1) o ↔ AreNear 1 inner o
+      → ReachesInto (box_of x0 x1 y0 y1) o ↔ AreNear 1 inner o
   pub halved : (x0 x1 y0 y1 : ℤ) (inner o : Bounds) → IsTight inner
       → ((x y : ℤ) → Within inner x y ↔ StrictlyWithin (box_of (pos 2 *ℤ x0) (pos 2 *ℤ x1) (pos 2 *ℤ y0) (pos 2 *ℤ y1)) x y) → IsTight o
-      → IsEntering (box_of x0 x1 y0 y1) o ↔ AreNear 1 inner (times 2 o)
+      → ReachesInto (box_of x0 x1 y0 y1) o ↔ AreNear 1 inner (times 2 o)
   pub flat : (x0 x1 y0 y1 : ℤ) (o : Bounds)
       → ((x y : ℤ) → StrictlyWithin (box_of (pos 2 *ℤ x0) (pos 2 *ℤ x1) (pos 2 *ℤ y0) (pos 2 *ℤ y1)) x y → ⊥)
-      → IsEntering (box_of x0 x1 y0 y1) o → ⊥
+      → ReachesInto (box_of x0 x1 y0 y1) o → ⊥
 
 -- bounds with a point strictly inside have one on none of the edges
 abbrev pub OffEdgesLaw : Type 0

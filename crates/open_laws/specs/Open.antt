@@ -6,8 +6,8 @@ use Rattle.grid_num.specs.declared.Point.{Point}
 use Rattle.grid_sets.specs.Points.{HasPoint}
 
 -- b enters c: some point strictly in b lies in c, be it on c's edge
-unfoldable pub IsEntering : Bounds → Bounds → Type 0
-IsEntering b c = (p : PlanePoint) × StrictlyIn b p × In c p
+unfoldable pub ReachesInto : Bounds → Bounds → Type 0
+ReachesInto b c = (p : PlanePoint) × StrictlyIn b p × In c p
 
 -- the two overlap: some point lies strictly in both
 unfoldable pub AreOverlapping : Bounds → Bounds → Type 0

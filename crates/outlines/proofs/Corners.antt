@@ -1,7 +1,7 @@
 -- Corners of rings lie on the rings' edges, so on what the rings cover.
 use lib.IntN.{zero-*ℤ}
-use Rattle.std.proofs.Common.{◌≡◌, sym, ◌∙◌, subst, inl, inr, ◌⊎◌, arith, List, [], ◌∷◌}
-use Rattle.std.specs.Prelude.{ℤ, pos, ◌-ℤ◌, ◌*ℤ◌, ◌≤ℤ◌, Any}
+use Rattle.std.proofs.Common.{◌≡◌, sym, ◌∙◌, subst, inl, inr, arith, List, [], ◌∷◌}
+use Rattle.std.specs.Prelude.{ℤ, pos, ◌-ℤ◌, ◌*ℤ◌, Any}
 use Rattle.std.proofs.Math.IntN.{*ℤ_comm}
 use Rattle.std.proofs.lemmas.Int.{ints, by_lt_z}
 use Rattle.plane.specs.Plane.{PlanePoint, grid_point}

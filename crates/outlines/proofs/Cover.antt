@@ -1,10 +1,10 @@
 -- The rings of pieces cover exactly these, and lie within half a metre.
-use Rattle.std.proofs.Common.{◌≡◌, refl, sym, ap, subst, ℕ, ◌*◌, inl, inr, arith, mul_comm, List, [], ◌∷◌, map, ◌∙◌}
+use Rattle.std.proofs.Common.{◌≡◌, refl, ap, subst, ℕ, ◌*◌, inl, inr, arith, mul_comm, List, [], ◌∷◌, ◌∙◌}
 use Rattle.std.specs.Prelude.{◌↔◌, ℤ, pos, ◌*ℤ◌, Any, Result, Ok, Err, IfOk}
 use Rattle.std.specs.List.{All}
 use Rattle.std.proofs.lemmas.Int.{ints}
-use Rattle.plane.specs.Plane.{PlanePoint, Bounds, Within, In, times}
-use Rattle.plane.specs.Covering.{Covers, edges_of_all, IsOn}
+use Rattle.plane.specs.Plane.{PlanePoint, Bounds, In, times}
+use Rattle.plane.specs.Covering.{Covers, edges_of_all}
 use Rattle.plane.proofs.Lists.{any_none, any_cases, any_head, any_tail, covers_on}
 use Rattle.plane.proofs.Points.{mul_mul}
 use Rattle.octagon.specs.Room.{IsAround}
@@ -73,10 +73,11 @@ if_ok P Q (Ok x) f h = f x h
 if_ok P Q (Err e) f h = tt
 
 -- ---- the cover
+pub union_covering : (pieces : List Bounds) (t : Traced) → ((p : PlanePoint) → Covers (edges_of_all t.rings) p ↔ Any (λ b. In b p) (in_nanometres pieces)) → IsCovering pieces t
+union_covering pieces t u p = (λ h. one_to_units pieces p ((u p).0 h), λ h. (u p).1 (one_from_units pieces p h))
+
 pub covering : SheetUnionCoverLaw → (pieces : List Bounds) (ss : List Strip) (t : Traced) → IsSheet ss → AreCovering (in_nanometres pieces) ss → AreRings ss t.rings → IsCovering pieces t
-covering law pieces ss t s c r p =
-    let u = law (in_nanometres pieces) ss t.rings p s c r in
-    (λ h. one_to_units pieces p (u.0 h), λ h. u.1 (one_from_units pieces p h))
+covering law pieces ss t s c r = union_covering pieces t (λ p. law (in_nanometres pieces) ss t.rings p s c r)
 
 -- ---- the range
 in_range : (o : Bounds) (c : Point) → IsAround 250000000 o → In o (nm_in_units (place c)) → IsInRange c.x × IsInRange c.y

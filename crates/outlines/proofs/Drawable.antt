@@ -1,6 +1,6 @@
 -- Each piece of a fill has points strictly inside, and lies within half a metre.
-use Rattle.std.proofs.Common.{◌≡◌, sym, subst, ℕ, ◌+◌, ◌<◌, ◌≤◌, inl, inr, arith, refl, List, [], ◌∷◌, map, length}
-use Rattle.std.specs.Prelude.{ℤ, max, pos, neg_ℤ, ◌+ℤ◌, ◌-ℤ◌, ◌≤ℤ◌, ◌<ℤ◌}
+use Rattle.std.proofs.Common.{sym, subst, ℕ, ◌+◌, ◌<◌, ◌≤◌, inl, inr, arith, List, [], ◌∷◌, map, length}
+use Rattle.std.specs.Prelude.{ℤ, max, pos, neg_ℤ, ◌<ℤ◌}
 use Rattle.std.specs.List.{All}
 use Rattle.std.proofs.lemmas.Int.{ints}
 use Rattle.std.proofs.lemmas.Bool.{cases_lt}
@@ -9,7 +9,7 @@ use Rattle.std.proofs.lemmas.List.Elements.{All-nil}
 use Rattle.grid_num.specs.declared.Point.{Point}
 use Rattle.grid_num.specs.Roots.{up2_of}
 use Rattle.grid_num.proofs.Roots.{lt_up2}
-use Rattle.plane.specs.Plane.{Bounds, Within, In, IsTight, ball_of, box_of, grid_point, sum_of}
+use Rattle.plane.specs.Plane.{Bounds, Within, In, IsTight, IsOct, ball_of, box_of, grid_point}
 use Rattle.plane.specs.Narrow.{IsNearZero}
 use Rattle.plane.proofs.Moved.{tight_box_law}
 use Rattle.plane.proofs.Near.{IsTight-ball, IsTight-sum}
@@ -161,3 +161,16 @@ drawable b s i f w = record {
 pub all_drawable : AllDrawableLaw
 all_drawable b s all h =
     λ k d l. subst (λ (f : Made). ArePiecesDrawable f.pieces) (get_or_default all k no_fill d l) (drawable b s k _ (h.each k l))
+
+-- so they are octagons of the grid
+pub all_octs : (b : Board) → IsSoundBoard b → (i : ℕ) (f : Made) → IsFillOf b i f → All IsOct f.pieces
+all_octs b s i f w = all_of IsOct f.pieces (λ o m. oct o (piece_thick b (fillable b s) i f w o m).tight (piece_near b s i f w o (piece_thick b (fillable b s) i f w o m).tight m))
+  where
+    oct : (o : Bounds) → IsTight o → IsAround 250000000 o → IsOct o
+    oct o t a = record {
+      tight = t;
+      x_low = omega (arith, ints, a.x_low);
+      x_high = omega (arith, ints, a.x_high);
+      y_low = omega (arith, ints, a.y_low);
+      y_high = omega (arith, ints, a.y_high);
+    }

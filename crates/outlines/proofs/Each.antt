@@ -1,11 +1,10 @@
 -- One fill after another.
-use Rattle.std.proofs.Common.{◌≡◌, sym, ◌∙◌, subst, ℕ, zero, suc, ◌<◌, ◌≤◌, arith, List, [], ◌∷◌, ◌++◌, ◌+◌, length, get_or, map}
+use Rattle.std.proofs.Common.{◌≡◌, sym, subst, ℕ, zero, suc, ◌<◌, arith, List, [], ◌∷◌, ◌++◌, ◌+◌, length, get_or, map}
 use Rattle.std.specs.List.{All}
 use Rattle.std.proofs.lemmas.List.Elements.{All-cons, All-nil, All-append}
 use Rattle.rings.specs.Rings.{Traced, IsRingInRange, not_traced}
-use Rattle.rings.specs.Outlines.{AreOutlines}
 use Rattle.fill_rules.specs.Made.{Made, no_fill}
-use Rattle.outlines.specs.Drawn.{IsCovering, AreInRange}
+use Rattle.outlines.specs.Drawn.{AreRingsInRange}
 
 -- what holds of each place holds of the list with one more
 pub each_more : (P : ℕ → Traced → Type 0) (ts : List Traced) (t : Traced) → ((k : ℕ) → k < length ts → P k (get_or ts k not_traced)) → P (length ts) t
@@ -15,7 +14,7 @@ each_more P [] t h p (suc k) l = absurd (omega (arith, l))
 each_more P (u ∷ ts) t h p zero l = h zero (omega arith)
 each_more P (u ∷ ts) t h p (suc k) l = each_more (λ j. P (suc j)) ts t (λ j m. h (suc j) (omega (arith, m))) p k (omega (arith, l))
 
-pub range_more : (ts : List Traced) (t : Traced) → AreInRange ts → All IsRingInRange t.rings → AreInRange (ts ++ t ∷ [])
+pub range_more : (ts : List Traced) (t : Traced) → AreRingsInRange ts → All IsRingInRange t.rings → AreRingsInRange (ts ++ t ∷ [])
 range_more ts t h r = All-append (λ (x : Traced). All IsRingInRange x.rings) ts (t ∷ []) h (All-cons (λ (x : Traced). All IsRingInRange x.rings) t [] r (All-nil (λ (x : Traced). All IsRingInRange x.rings)))
 
 length_more : (ts : List Traced) (t : Traced) → length (ts ++ t ∷ []) ≡ suc (length ts)

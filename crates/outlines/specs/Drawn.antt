@@ -24,5 +24,5 @@ abbrev pub AreCovered : List Made → List Traced → Type 0
 AreCovered fills traced = (i : ℕ) → i < length traced → IsCovering (get_or fills i no_fill).pieces (get_or traced i not_traced)
 
 -- all corners lie within 500 mm
-abbrev pub AreInRange : List Traced → Type 0
-AreInRange traced = All (λ (t : Traced). All IsRingInRange t.rings) traced
+abbrev pub AreRingsInRange : List Traced → Type 0
+AreRingsInRange traced = All (λ (t : Traced). All IsRingInRange t.rings) traced

@@ -1,6 +1,7 @@
 //! The outlines of fills: the rings that are written of each, and its area.
-//! The layer above uses `outlines_single`: the rings of the definition, which cover exactly the points of the pieces; and
-//! `drawable_law`: the fills of every accepted board are such as it asks for.
+//! The layer above uses `outlines_single`, or `outlines` with threads: the rings of the definition, which cover exactly the points
+//! of the pieces; `drawable_law`: the fills of every accepted board are such as these ask for; and `covered_law`: so whatever
+//! outlines are those of its fills cover these.
 //! Pieces are in units of the grid (2 nm), corners of rings in nanometres, areas twice over in square nanometres.
 #![tactic(auto)]
 
@@ -11,8 +12,10 @@ ghost use Rattle.rings.specs.Outlines.{AreOutlines};
 ghost use Rattle.rings.specs.Rings.{IsRingInRange};
 ghost use Rattle.fill_rules.specs.Made.{Made};
 ghost use Rattle.output_rules.specs.Traced.{AreTracedOf};
-ghost use Rattle.outlines.specs.Drawn.{ArePiecesDrawable, IsCovering, AreCovered, AreInRange};
-ghost use Rattle.outlines.specs.Laws.{DrawableLaw, AllDrawableLaw};
+ghost use Rattle.outlines.specs.Drawn.{ArePiecesDrawable, IsCovering, AreCovered, AreRingsInRange};
+ghost use Rattle.outlines.specs.Laws.{DrawableLaw, AllDrawableLaw, AllCoveredLaw};
+
+mod threads;
 
 use fills::Fill;
 use grid_num::Memory;
@@ -22,6 +25,7 @@ use sheet_trace::{cover_law, trace};
 use sheet_union::Sheet;
 use std::alloc::Global;
 use std::sync::Arc;
+pub use threads::outlines;
 
 /// The outlines of each fill, in the order of the fills. Each piece has points strictly inside, and lies within 250,000,000
 /// units of 0.
@@ -33,7 +37,7 @@ pub fn outlines_single(alloc: Global, fills: &[Arc<Fill>]) -> Result<Vec<Traced>
     requires { All (λ f. ArePiecesDrawable f.pieces) (map arc_value fills.now) }
     ensures outlines { IfOk result (λ t. AreTracedOf (map arc_value fills.now) t.items) }
     ensures cover { IfOk result (λ t. AreCovered (map arc_value fills.now) t.items) }
-    ensures range { IfOk result (λ t. AreInRange t.items) }
+    ensures range { IfOk result (λ t. AreRingsInRange t.items) }
 {
     let mut all = Vec::new(alloc);
     'each: for i in 0..fills.len() {
@@ -47,6 +51,14 @@ pub fn drawable_law()
     ensures each { DrawableLaw }
     ensures all { AllDrawableLaw }
 {}
+
+/// Whatever outlines are those of the fills of an accepted board, they cover exactly the points of the fills' pieces.
+pub fn covered_law()
+    ensures { AllCoveredLaw }
+{
+    sheet_union::cover_law();
+    rings::cover_law();
+}
 
 // The fill at the place.
 fn fill_at(fills: &[Arc<Fill>], i: usize) -> &Fill

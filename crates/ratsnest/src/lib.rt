@@ -3,7 +3,7 @@
 //! Coordinates are in nanometres, within a metre of the origin; an anchor is named by its place in the list.
 #![tactic(auto)]
 
-ghost use Rattle.std.specs.Prelude.{◌≡◌, ◌↔◌, ◌<◌, ◌^◌, List, length, IfOk, IsTrue};
+ghost use Rattle.std.specs.Prelude.{◌≡◌, ◌↔◌, List, IfOk, IsTrue};
 ghost use Rattle.std.specs.List.{All};
 ghost use Rattle.ratsnest.specs.Ratsnest.{IsNearby, IsTree, IsLeastTree, TreeLaw};
 
@@ -34,21 +34,30 @@ pub struct Pair {
 
 /// The ratsnest in joining order: it starts with the cluster of the first anchor, and takes each time the pair of least
 /// key that leaves the joined clusters. A pair's key is the squared distance of its anchors, then its lesser number, then
-/// its greater. Time is quadratic in the anchors and memory linear. Refuses for want of memory alone.
+/// its greater. Time is quadratic in the anchors and memory linear.
+///
+/// # Errors
+///
+/// Want of memory, which 2^32 anchors or more are taken for.
 pub fn tree(alloc: Global, anchors: &[Anchor]) -> Result<Vec<Pair>, Memory>
     requires near { All IsNearby anchors.now }
-    requires count { length anchors.now < 2 ^ 32 }
     ensures order { IfOk result (λ pairs. IsTree anchors.now pairs.items) }
     ensures least { IfOk result (λ pairs. IsLeastTree anchors.now pairs.items) }
 {
+    if anchors.len() > u32::MAX as usize {
+        return Err(Memory);
+    }
     grown(alloc, anchors)
 }
 
 /// Whether these pairs are the ratsnest in joining order. Any pairs may be asked about: one whose ends are in the other
-/// order, or an end that is no anchor, makes the answer false. Refuses for want of memory alone.
+/// order, or an end that is no anchor, makes the answer false.
+///
+/// # Errors
+///
+/// Want of memory, which 2^32 anchors or more are taken for.
 pub fn check_tree(alloc: Global, anchors: &[Anchor], pairs: &[Pair]) -> Result<bool, Memory>
     requires near { All IsNearby anchors.now }
-    requires count { length anchors.now < 2 ^ 32 }
     ensures exact { IfOk result (λ yes. IsTrue yes ↔ IsTree anchors.now pairs.now) }
     ensures least { IfOk result (λ yes. IsTrue yes → IsLeastTree anchors.now pairs.now) }
 {

@@ -188,6 +188,9 @@ one_of_command (commands.Report input rules) s =
     one_of_file In (OwesBoard (OwesReport rules)) (content input s) (one_of_board (OwesReport rules) (content input s) (one_said rules (content input s)))
 one_of_command (commands.Generate seed size output) s = one_generated seed size output
 
+pub one_each : HasOneEach all_duties
+one_each command s due other h k = one_of_command command s due other h k
+
 -- ---- any duties
 
 one_of_words : (owes : Command → Seen → Due → Type 0) → ((command : Command) (s : Seen) → IsOne (owes command s)) → (w : Wanted) (s : Seen) → IsOne (OwesWords owes w s)
@@ -220,9 +223,9 @@ duties d one = (has_one d one, answers d (has_one d one))
 -- ---- the whole program
 
 pub one_due : OneDueLaw
-one_due words s due other h k = (duties all_duties one_of_command).0 words s due other h k
+one_due words s due other h k = (duties all_duties one_each).0 words s due other h k
 
-quiet_no_fault : (answer : Ended) (before now : Counts) → IsCaused answer before now → IsQuiet before now → IsDeskFault answer → ⊥
+pub quiet_no_fault : (answer : Ended) (before now : Counts) → IsCaused answer before now → IsQuiet before now → IsDeskFault answer → ⊥
 quiet_no_fault (Unreadable role) before now c q f = q.reading c
 quiet_no_fault (Unwritten given) before now c q f = q.writing c
 quiet_no_fault (Unsaid given) before now c q f = q.saying c
@@ -237,4 +240,4 @@ quiet_no_fault Memory before now c q f = f
 
 pub answers_due : AnswersDueLaw
 answers_due answer words before now s t due l c q h =
-    (duties all_duties one_of_command).1 answer words s t due l (quiet_no_fault answer before now c q) h
+    (duties all_duties one_each).1 answer words s t due l (quiet_no_fault answer before now c q) h

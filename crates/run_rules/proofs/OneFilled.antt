@@ -1,8 +1,7 @@
 -- A board has one list of fills at most, and fills one list of outlines.
-use Rattle.std.proofs.Common.{◌≡◌, ◌∙◌, ap, sym, refl, subst, ℕ, zero, suc, ◌<◌, List, [], ◌∷◌, length, get_or, arith}
+use Rattle.std.proofs.Common.{◌≡◌, ◌∙◌, ap, sym, subst, ℕ, ◌<◌, List, get_or}
 use Rattle.std.proofs.Common.{negsuc}
 use Rattle.std.specs.Prelude.{pos, ℤ}
-use Rattle.board_language.specs.Board.{Board}
 use Rattle.fills.proofs.Same.{one_fill}
 use Rattle.fill_rules.specs.Made.{no_fill}
 use Rattle.board_language.proofs.Members.{same_lists}

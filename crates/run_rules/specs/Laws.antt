@@ -4,12 +4,13 @@ use Rattle.std.specs.Prelude.{◌≡◌, ◌⊎◌, List}
 use Rattle.desk.specs.declared.Counts.{Counts}
 use Rattle.desk.specs.Seen.{Seen}
 use Rattle.board_language.specs.Board.{Board}
+use Rattle.board_language.specs.Clearances.{AreSoundRules}
 use Rattle.fill_rules.specs.Made.{Made}
 use Rattle.rings.specs.Rings.{Traced}
 use Rattle.run_rules.specs.declared.words.Command.{Command}
 use Rattle.run_rules.specs.declared.words.UsageFault.{UsageFault}
 use Rattle.run_rules.specs.declared.ended.Ended.{Ended}
-use Rattle.run_rules.specs.Words.{GivenWord, IsCommand, HasUsageFault}
+use Rattle.run_rules.specs.Words.{GivenWord, IsCommand, HasUsageFault, IsCommandInRange, default_rules}
 use Rattle.fills.specs.Fills.{AreBoardFills}
 use Rattle.output_rules.specs.Traced.{AreTracedOf}
 use Rattle.run_rules.specs.Due.{Due, Duties, all_duties, IsDue}
@@ -58,3 +59,8 @@ pub record WantedLaw : Type 0 where
   pub not_both : (words : List GivenWord) (command : Command) (fault : UsageFault) → IsCommand words command → HasUsageFault words fault → ⊥
   pub one_command : (words : List GivenWord) (command other : Command) → IsCommand words command → IsCommand words other → command ≡ other
   pub one_fault : (words : List GivenWord) (fault other : UsageFault) → HasUsageFault words fault → HasUsageFault words other → fault ≡ other
+
+-- The numbers of a command are in their ranges, and so are those that hold where no option says otherwise.
+pub record RangeLaw : Type 0 where
+  pub command : (words : List GivenWord) (command : Command) → IsCommand words command → IsCommandInRange command
+  pub usual : AreSoundRules default_rules

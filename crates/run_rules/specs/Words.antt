@@ -1,11 +1,12 @@
 -- What the words of the command want of a run. They are those behind the program's name.
-use Rattle.std.specs.Prelude.{◌≡◌, ℕ, ◌+◌, ◌-◌, ◌^◌, Bool, true, false, not, ◌&&◌, ◌||◌, ◌==◌, nat_le, nat_lt, int_le, if◌then◌else◌, List, [], ◌∷◌, ◌++◌, length, take, drop, Option, None, Some, option_map, option_and_then, is_none, pos}
+use Rattle.std.specs.Prelude.{◌≡◌, ℕ, ◌+◌, ◌-◌, ◌^◌, ◌<◌, ◌≤◌, Bool, true, false, not, ◌&&◌, ◌||◌, ◌==◌, nat_le, nat_lt, int_le, if◌then◌else◌, List, [], ◌∷◌, ◌++◌, length, take, drop, Option, None, Some, option_map, option_and_then, is_none, pos}
 use Rattle.std.specs.List.{list_all, list_any, prefix_len}
 use Rattle.std.specs.Str.{bytes_eq}
 use Rattle.std.specs.Char.{is_ascii_digit}
 use lib.Chars.{codes}
 use Rattle.grid_num.specs.Spelling.{number}
 use Rattle.board_language.specs.declared.board.Rules.{Rules}
+use Rattle.board_language.specs.Clearances.{AreSoundRules}
 use Rattle.board_text.specs.Items.{size_of}
 use Rattle.board_text.specs.Numbers.{length_fault, length_of}
 use Rattle.run_rules.specs.declared.words.Flag.{Flag}
@@ -163,6 +164,23 @@ rules_in settings = record { floor = size_of (length_of (value_of Clearance sett
 -- what holds where no option says otherwise
 abbrev pub default_rules : Rules
 default_rules = rules_in []
+
+-- ---- ranges
+
+-- 1 to 64 workers
+abbrev pub IsWorkerCount : ℕ → Type 0
+IsWorkerCount n = (1 ≤ n) × (n ≤ 64)
+
+-- a board that is made is 1 to 200 cells wide
+abbrev pub IsBoardSize : ℕ → Type 0
+IsBoardSize n = (1 ≤ n) × (n ≤ 200)
+
+-- the numbers of a command lie so, and its clearances from 2 nm to 100 mm
+abbrev pub IsCommandInRange : Command → Type 0
+IsCommandInRange (Fill input output threads rules) = IsWorkerCount threads × AreSoundRules rules
+IsCommandInRange (Refill input edits output threads rules) = IsWorkerCount threads × AreSoundRules rules
+IsCommandInRange (Report input rules) = AreSoundRules rules
+IsCommandInRange (Generate seed size output) = (seed < 2 ^ 64) × IsBoardSize size
 
 -- ---- commands
 

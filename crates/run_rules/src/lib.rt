@@ -3,12 +3,13 @@
 //! Places are numbers of bytes, lines and edits count from 1, lengths are nanometres.
 #![tactic(auto)]
 
-ghost use Rattle.run_rules.specs.Laws.{WantedLaw, OneFillsLaw, OneOutlinesLaw, OneDueLaw, AnswersDueLaw};
+ghost use Rattle.run_rules.specs.Laws.{WantedLaw, RangeLaw, OneFillsLaw, OneOutlinesLaw, OneDueLaw, AnswersDueLaw};
 ghost use Rattle.run_rules.specs.Rows.{CommandRows, FaultRows, OrderRows, ComplaintRows};
 
 mod commands;
 mod complaints;
 mod ended;
+mod items;
 mod reading;
 mod values;
 mod words;
@@ -17,11 +18,19 @@ pub use board_language::Offence;
 pub use commands::read_words;
 pub use complaints::{Line, complaint};
 pub use ended::{Ended, Role, status};
+pub use items::items_in;
+pub use values::default_rules;
 pub use words::{Command, FileName, Flag, UsageFault, WordsError};
 
 /// Words are a command, or have a first fault: just one of the two.
 pub fn wanted_law()
     ensures { WantedLaw }
+{}
+
+/// The numbers of a command are in their ranges: 1 to 64 workers, clearances from 2 nm to 100 mm, a seed below 2^64, and a board
+/// that is made is 1 to 200 cells wide.
+pub fn range_law()
+    ensures { RangeLaw }
 {}
 
 /// A board has at most one list of fills, and fills have at most one list of outlines.

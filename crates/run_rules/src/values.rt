@@ -157,3 +157,13 @@ pub fn values_of(options: &[Setting<'_>]) -> Result<Values, UsageFault>
         rules: Rules { floor, edge },
     })
 }
+
+/// The clearances where no option says otherwise: 0.2 mm, and 0.5 mm to the board's edge.
+pub fn default_rules() -> Rules
+    ensures { result ≡ words.default_rules }
+{
+    Rules {
+        floor: 200_000,
+        edge: 500_000,
+    }
+}

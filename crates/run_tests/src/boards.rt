@@ -14,7 +14,7 @@ use std::test::Fail;
 use step_count::Steps;
 use top_call::run_single;
 
-/// All is written. No line is counted yet.
+/// All is written and said, and nothing is left to be joined.
 pub const DONE: Ended = Ended::Done { unjoined: 0 };
 
 /// A board with one zone on F.Cu, of this least thickness and outline, up to the end of the outline's line.

@@ -1,13 +1,15 @@
 // Boards with copper beside their zone: the bytes that are written.
-use crate::boards::{DONE, SQUARE, board, desk_with, ring, run_words};
+use crate::boards::{SQUARE, board, desk_with, ring, run_words};
+use run_rules::Ended;
 use std::test::Fail;
 
-/// What stands behind a zone of net GND, 10 mm by 10 mm, that keeps its islands, and the rings of its fill.
+/// What stands behind a zone of net GND, 10 mm by 10 mm, that keeps its islands, the rings of its fill, and how many lines are still to be joined.
 #[derive(Clone, Copy)]
 struct Case {
     what: &'static str,
     behind: &'static str,
     rings: &'static [&'static [&'static str]],
+    unjoined: u64,
 }
 
 // A track of another net, 0.25 mm wide, runs through the middle: each half ends 0.2 mm beside it.
@@ -36,6 +38,7 @@ const TRACK: Case = Case {
             "5.325 0.073222",
         ],
     ],
+    unjoined: 1,
 };
 
 // A via of another net in the middle: one ring, with a slit from the left border to the hole round the via.
@@ -62,6 +65,7 @@ const VIA: Case = Case {
         "0 4.5",
         "0 0.073222",
     ]],
+    unjoined: 0,
 };
 
 // A pad of the zone's net inside a rule area without copper pours: the area bars the spokes, and the hole is the area's.
@@ -84,6 +88,7 @@ const AREA: Case = Case {
         "0 3",
         "0 0.073222",
     ]],
+    unjoined: 1,
 };
 
 #[test]
@@ -95,7 +100,9 @@ fn fills_round_other_copper(rt: HostRuntime) -> Result<(), Fail> {
             what,
             behind,
             rings,
+            unjoined,
         } = case;
+        let done = Ended::Done { unjoined };
         let mut text = String::from_str(alloc, "")?;
         for corners in rings {
             text.push_str(ring(alloc, corners)?.as_str())?;
@@ -104,13 +111,13 @@ fn fills_round_other_copper(rt: HostRuntime) -> Result<(), Fail> {
         let filled = format!(in alloc; "{front}{text}\n  ){behind}\n)\n")?;
         let mut desk = desk_with(alloc, &[], plain.as_bytes())?;
         assert!(rt;
-            run_words(alloc, &mut desk, &["fill", "a", "b"])? == DONE,
+            run_words(alloc, &mut desk, &["fill", "a", "b"])? == done,
             "{what}"
         );
         assert!(rt; desk.contents("b") == Some(filled.as_bytes()), "{what}");
         // filled again, it stays
         assert!(rt;
-            run_words(alloc, &mut desk, &["fill", "b", "c"])? == DONE,
+            run_words(alloc, &mut desk, &["fill", "b", "c"])? == done,
             "{what}"
         );
         assert!(rt; desk.contents("c") == Some(filled.as_bytes()), "{what}");

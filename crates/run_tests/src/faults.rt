@@ -31,6 +31,10 @@ fn meets_a_fault_at_each_call(rt: HostRuntime) -> Result<(), Fail> {
                     "{n}"
                 );
             }
+            Ended::Unsaid { given } => assert!(rt;
+                desk.contents("b") == Some(filled.as_bytes()) && desk.said().len() as u64 == given,
+                "{n}"
+            ),
             Ended::Done { .. } => assert!(rt;
                 desk.calls() < n && desk.contents("b") == Some(filled.as_bytes()),
                 "{n}"

@@ -67,7 +67,8 @@ fn fills_rectangles(rt: HostRuntime) -> Result<(), Fail> {
         let filled = format!(in alloc; "{front}{ring}{END}")?;
         assert!(rt; desk.contents("b") == Some(filled.as_bytes()), "{outline}");
         assert!(rt; desk.contents("a") == Some(text.as_bytes()));
-        assert!(rt; desk.complained().is_empty() && desk.said().is_empty() && desk.starved() == 0);
+        assert!(rt; desk.complained().is_empty() && desk.starved() == 0);
+        assert!(rt; desk.said().ends_with(b"\nunjoined 0\n"), "{outline}");
     }
     Ok(())
 }

@@ -20,7 +20,7 @@ use Rattle.rings.proofs.Rows.{IsUnder, IsOver, under_of, of_under, over_of, of_o
 use Rattle.rings.proofs.Reach.{row_outside}
 use Rattle.rings.proofs.Parts.{boundary_exists}
 use Rattle.same_points.specs.Cuts.{side_at, upper_part, lower_part, cut}
-use Rattle.same_points.specs.Edges.{is_crossed, place, first_of, final_of, parted}
+use Rattle.same_points.specs.Edges.{is_crossed, crossing_place, begin_of, final_of, parted}
 use Rattle.same_points.proofs.Sides.{side_is, at_same, at_back, bool_cases}
 use Rattle.same_points.proofs.Edges.{between_cases, up_between, down_between, IsCuttable, IsCutOf, First, Final, first_true, first_false, final_true, has_parted, cut_has, parted_once, permuted_of}
 use Rattle.same_points.proofs.Pieces.{left_in, right_in, left_at, wide_in, IsCrossing, Stands, Over, Under, Across, stands, IsPiece, Whole, Upper, Lower, piece_of, has_over, has_under, has_upper, has_lower}
@@ -35,14 +35,14 @@ sloped_back t u l le (inr (inr e)) = inr (inr (omega (arith, ints, e)))
 abbrev at : ℤ → ℤ → Point
 at x y = record { x = x; y = y }
 
-left_place : (r : ℤ) (s : Strip) → IsTrapezoid s → place r (left_edge s) ≡ at (left_in r s) r
-unfolding place
+left_place : (r : ℤ) (s : Strip) → IsTrapezoid s → crossing_place r (left_edge s) ≡ at (left_in r s) r
+unfolding crossing_place
 left_place r s h =
     let a = at_back s.bottom s.top s.left_end s.left r (side_at s.bottom s.top s.left_end s.left r) (side_is s.bottom s.top s.left_end s.left r (inr h.down) (sloped_back s.top s.bottom s.left s.left_end h.left)) in
     ap (λ (z : ℤ). at z r) (at_same s.top s.bottom s.left s.left_end r (side_at s.bottom s.top s.left_end s.left r) (left_in r s) (inl h.down) a (left_at r s h))
 
-right_place : (r : ℤ) (s : Strip) → place r (right_edge s) ≡ at (right_in r s) r
-unfolding place
+right_place : (r : ℤ) (s : Strip) → crossing_place r (right_edge s) ≡ at (right_in r s) r
+unfolding crossing_place
 right_place r s = refl
 
 left_crossed : (r : ℤ) (s : Strip) → IsCrossing r s → is_crossed r (left_edge s) ≡ true
@@ -58,13 +58,13 @@ right_crosses : (r : ℤ) (s : Strip) → s.top <ℤ s.bottom → is_crossed r (
 right_crosses r s d h = elim (between_cases s.top r s.bottom h) [ inl k ↦ record { over = k.0; under = k.1 } | inr k ↦ absurd (let a = k.0 in let b = k.1 in omega (arith, ints, a, b, d)) ]
 
 -- the parts of the sides are the sides of the parts
-left_first : (r : ℤ) (s : Strip) → IsTrapezoid s → IsCrossing r s → first_of r (left_edge s) ≡ left_edge (lower_part r s)
+left_first : (r : ℤ) (s : Strip) → IsTrapezoid s → IsCrossing r s → begin_of r (left_edge s) ≡ left_edge (lower_part r s)
 left_first r s h c = first_true r (left_edge s) (left_crossed r s c) ∙ ap (first_part (left_edge s)) (left_place r s h)
 
 left_final : (r : ℤ) (s : Strip) → IsTrapezoid s → IsCrossing r s → final_of r (left_edge s) ≡ left_edge (upper_part r s)
 left_final r s h c = final_true r (left_edge s) (left_crossed r s c) ∙ ap (second_part (left_edge s)) (left_place r s h)
 
-right_first : (r : ℤ) (s : Strip) → IsCrossing r s → first_of r (right_edge s) ≡ right_edge (upper_part r s)
+right_first : (r : ℤ) (s : Strip) → IsCrossing r s → begin_of r (right_edge s) ≡ right_edge (upper_part r s)
 right_first r s c = first_true r (right_edge s) (right_crossed r s c) ∙ ap (first_part (right_edge s)) (right_place r s)
 
 right_final : (r : ℤ) (s : Strip) → IsCrossing r s → final_of r (right_edge s) ≡ right_edge (lower_part r s)
@@ -74,10 +74,10 @@ not_crossing : (r : ℤ) (s : Strip) → (s.bottom ≤ℤ r) ⊎ (r ≤ℤ s.top
 not_crossing r s (inl l) c = let a = c.under in omega (arith, ints, l, a)
 not_crossing r s (inr l) c = let a = c.over in omega (arith, ints, l, a)
 
-left_whole : (r : ℤ) (s : Strip) → s.top <ℤ s.bottom → (s.bottom ≤ℤ r) ⊎ (r ≤ℤ s.top) → first_of r (left_edge s) ≡ left_edge s
+left_whole : (r : ℤ) (s : Strip) → s.top <ℤ s.bottom → (s.bottom ≤ℤ r) ⊎ (r ≤ℤ s.top) → begin_of r (left_edge s) ≡ left_edge s
 left_whole r s d l = elim (bool_cases (is_crossed r (left_edge s))) [ inl h ↦ absurd (not_crossing r s l (left_crosses r s d h)) | inr h ↦ first_false r (left_edge s) h ]
 
-right_whole : (r : ℤ) (s : Strip) → s.top <ℤ s.bottom → (s.bottom ≤ℤ r) ⊎ (r ≤ℤ s.top) → first_of r (right_edge s) ≡ right_edge s
+right_whole : (r : ℤ) (s : Strip) → s.top <ℤ s.bottom → (s.bottom ≤ℤ r) ⊎ (r ≤ℤ s.top) → begin_of r (right_edge s) ≡ right_edge s
 right_whole r s d l = elim (bool_cases (is_crossed r (right_edge s))) [ inl h ↦ absurd (not_crossing r s l (right_crosses r s d h)) | inr h ↦ first_false r (right_edge s) h ]
 
 -- ---- the boundary may be cut at the row
@@ -85,7 +85,7 @@ record IsCrossedSide (r : ℤ) (ss : List Strip) (e : Edge) : Type 0 where
   strip : Strip
   one : Has ss strip
   crossing : IsCrossing r strip
-  is : ((e ≡ left_edge strip) × ((place r e).x ≡ left_in r strip)) ⊎ ((e ≡ right_edge strip) × ((place r e).x ≡ right_in r strip))
+  is : ((e ≡ left_edge strip) × ((crossing_place r e).x ≡ left_in r strip)) ⊎ ((e ≡ right_edge strip) × ((crossing_place r e).x ≡ right_in r strip))
 
 level_flat : (ss : List Strip) (e : Edge) → IsLevelPart ss e → e.start.y ≡ e.finish.y
 unfolding IsLevelPart
@@ -97,13 +97,13 @@ crossed_side r ss e o (Side (Left s h k)) x = record {
   strip = s;
   one = h;
   crossing = left_crosses r s (o.shape s h).down (subst (λ z. is_crossed r z ≡ true) k x);
-  is = inl (k, ap (λ z. (place r z).x) k ∙ ap (λ (z : Point). z.x) (left_place r s (o.shape s h)));
+  is = inl (k, ap (λ z. (crossing_place r z).x) k ∙ ap (λ (z : Point). z.x) (left_place r s (o.shape s h)));
 }
 crossed_side r ss e o (Side (Right s h k)) x = record {
   strip = s;
   one = h;
   crossing = right_crosses r s (o.shape s h).down (subst (λ z. is_crossed r z ≡ true) k x);
-  is = inr (k, ap (λ z. (place r z).x) k ∙ ap (λ (z : Point). z.x) (right_place r s));
+  is = inr (k, ap (λ z. (crossing_place r z).x) k ∙ ap (λ (z : Point). z.x) (right_place r s));
 }
 crossed_side r ss e o (Level l) x = absurd (let m = between_cases e.start.y r e.finish.y x in let k = level_flat ss e l in omega (arith, ints, m, k))
 
@@ -121,8 +121,8 @@ no_corner r ss s a o h c i k = row_outside ss a s o i h (subst (λ (z : ℤ). s.
 crossing_same : (r : ℤ) (s t : Strip) → s.top ≡ t.top → s.bottom ≡ t.bottom → IsCrossing r s → IsCrossing r t
 crossing_same r s t e f c = record { over = subst (λ (z : ℤ). z <ℤ r) e c.over; under = subst (λ (z : ℤ). r <ℤ z) f c.under }
 
--- two sides that cross the row at one place are one side
-same_place : (r : ℤ) (ss : List Strip) (e f : Edge) → AreOrdered ss → IsCrossedSide r ss e → IsCrossedSide r ss f → (place r e).x ≡ (place r f).x → e ≡ f
+-- two sides that cross the row at one crossing_place are one side
+same_place : (r : ℤ) (ss : List Strip) (e f : Edge) → AreOrdered ss → IsCrossedSide r ss e → IsCrossedSide r ss f → (crossing_place r e).x ≡ (crossing_place r f).x → e ≡ f
 same_place r ss e f o a b k =
     let s = a.strip in
     let t = b.strip in
@@ -137,8 +137,8 @@ same_place r ss e f o a b k =
     rows x y z l m = omega (arith, ints, l, m)
 
     by : (s t : Strip) → IsTrapezoid s → IsTrapezoid t → IsCrossing r s → IsCrossing r t → s.top ≡ t.top → s.bottom ≡ t.bottom → (s ≡ t) ⊎ (AreApartInSlab s t ⊎ AreApartInSlab t s)
-        → ((e ≡ left_edge s) × ((place r e).x ≡ left_in r s)) ⊎ ((e ≡ right_edge s) × ((place r e).x ≡ right_in r s))
-        → ((f ≡ left_edge t) × ((place r f).x ≡ left_in r t)) ⊎ ((f ≡ right_edge t) × ((place r f).x ≡ right_in r t)) → e ≡ f
+        → ((e ≡ left_edge s) × ((crossing_place r e).x ≡ left_in r s)) ⊎ ((e ≡ right_edge s) × ((crossing_place r e).x ≡ right_in r s))
+        → ((f ≡ left_edge t) × ((crossing_place r f).x ≡ left_in r t)) ⊎ ((f ≡ right_edge t) × ((crossing_place r f).x ≡ right_in r t)) → e ≡ f
     by s t h i c d x y (inl m) (inl u) (inl v) = u.0 ∙ ap left_edge m ∙ sym v.0
     by s t h i c d x y (inl m) (inr u) (inr v) = u.0 ∙ ap right_edge m ∙ sym v.0
     by s t h i c d x y (inl m) (inl u) (inr v) =
@@ -148,20 +148,20 @@ same_place r ss e f o a b k =
     by s t h i c d x y (inr (inl m)) u v =
         absurd (let g = gap_in r s t h i c x y m in let w = wide_in r s h c in let w2 = wide_in r t i d in less (left_in r s) (right_in r s) (left_in r t) (right_in r t) w g w2 (ends (left_in r s) (right_in r s) (left_edge s) (right_edge s) e u) (ends (left_in r t) (right_in r t) (left_edge t) (right_edge t) f v))
       where
-        ends : (p q : ℤ) (g h d : Edge) → ((d ≡ g) × ((place r d).x ≡ p)) ⊎ ((d ≡ h) × ((place r d).x ≡ q)) → ((place r d).x ≡ p) ⊎ ((place r d).x ≡ q)
+        ends : (p q : ℤ) (g h d : Edge) → ((d ≡ g) × ((crossing_place r d).x ≡ p)) ⊎ ((d ≡ h) × ((crossing_place r d).x ≡ q)) → ((crossing_place r d).x ≡ p) ⊎ ((crossing_place r d).x ≡ q)
         ends p q g h d (inl n) = inl n.1
         ends p q g h d (inr n) = inr n.1
 
-        less : (a b c d : ℤ) → a <ℤ b → b <ℤ c → c <ℤ d → ((place r e).x ≡ a) ⊎ ((place r e).x ≡ b) → ((place r f).x ≡ c) ⊎ ((place r f).x ≡ d) → ⊥
+        less : (a b c d : ℤ) → a <ℤ b → b <ℤ c → c <ℤ d → ((crossing_place r e).x ≡ a) ⊎ ((crossing_place r e).x ≡ b) → ((crossing_place r f).x ≡ c) ⊎ ((crossing_place r f).x ≡ d) → ⊥
         less a b c d l m n u v = omega (arith, ints, l, m, n, u, v, k)
     by s t h i c d x y (inr (inr m)) u v =
         absurd (let g = gap_in r t s i h d (sym x) (sym y) m in let w = wide_in r s h c in let w2 = wide_in r t i d in less (left_in r t) (right_in r t) (left_in r s) (right_in r s) w2 g w (ends (left_in r t) (right_in r t) (left_edge t) (right_edge t) f v) (ends (left_in r s) (right_in r s) (left_edge s) (right_edge s) e u))
       where
-        ends : (p q : ℤ) (g h d : Edge) → ((d ≡ g) × ((place r d).x ≡ p)) ⊎ ((d ≡ h) × ((place r d).x ≡ q)) → ((place r d).x ≡ p) ⊎ ((place r d).x ≡ q)
+        ends : (p q : ℤ) (g h d : Edge) → ((d ≡ g) × ((crossing_place r d).x ≡ p)) ⊎ ((d ≡ h) × ((crossing_place r d).x ≡ q)) → ((crossing_place r d).x ≡ p) ⊎ ((crossing_place r d).x ≡ q)
         ends p q g h d (inl n) = inl n.1
         ends p q g h d (inr n) = inr n.1
 
-        less : (a b c d : ℤ) → a <ℤ b → b <ℤ c → c <ℤ d → ((place r f).x ≡ a) ⊎ ((place r f).x ≡ b) → ((place r e).x ≡ c) ⊎ ((place r e).x ≡ d) → ⊥
+        less : (a b c d : ℤ) → a <ℤ b → b <ℤ c → c <ℤ d → ((crossing_place r f).x ≡ a) ⊎ ((crossing_place r f).x ≡ b) → ((crossing_place r e).x ≡ c) ⊎ ((crossing_place r e).x ≡ d) → ⊥
         less a b c d l m n u v = omega (arith, ints, l, m, n, u, v, k)
 
 pub boundary_cuttable : (r : ℤ) (ss : List Strip) (es : List Edge) → AreOrdered ss → AreBoundary ss es → IsCuttable r es
@@ -351,7 +351,7 @@ level_old r ss e o (inr (n, h)) = elim (corner_old r ss e.finish n.first) [
 ]
 
 -- ---- all boundary edges
-level_whole : (r : ℤ) (ss : List Strip) (e : Edge) → IsLevelPart ss e → first_of r e ≡ e
+level_whole : (r : ℤ) (ss : List Strip) (e : Edge) → IsLevelPart ss e → begin_of r e ≡ e
 level_whole r ss e l = elim (bool_cases (is_crossed r e)) [
   | inl h ↦ absurd (let m = between_cases e.start.y r e.finish.y h in let k = level_flat ss e l in omega (arith, ints, m, k))
   | inr h ↦ first_false r e h
@@ -364,15 +364,15 @@ parts_bound r ss es g o b (First e h k) = first (is_bound ss es b e h)
     first (Side (Left s i j)) = by (stands r s)
       where
         by : Stands r s → IsBound (cut r ss) g
-        by (Over l) = Side (Left s (has_over r ss s i (o.shape s i).down l) (k ∙ ap (first_of r) j ∙ left_whole r s (o.shape s i).down (inl l)))
-        by (Under l) = Side (Left s (has_under r ss s i (o.shape s i).down l) (k ∙ ap (first_of r) j ∙ left_whole r s (o.shape s i).down (inr l)))
-        by (Across c) = Side (Left (lower_part r s) (has_lower r ss s i c) (k ∙ ap (first_of r) j ∙ left_first r s (o.shape s i) c))
+        by (Over l) = Side (Left s (has_over r ss s i (o.shape s i).down l) (k ∙ ap (begin_of r) j ∙ left_whole r s (o.shape s i).down (inl l)))
+        by (Under l) = Side (Left s (has_under r ss s i (o.shape s i).down l) (k ∙ ap (begin_of r) j ∙ left_whole r s (o.shape s i).down (inr l)))
+        by (Across c) = Side (Left (lower_part r s) (has_lower r ss s i c) (k ∙ ap (begin_of r) j ∙ left_first r s (o.shape s i) c))
     first (Side (Right s i j)) = by (stands r s)
       where
         by : Stands r s → IsBound (cut r ss) g
-        by (Over l) = Side (Right s (has_over r ss s i (o.shape s i).down l) (k ∙ ap (first_of r) j ∙ right_whole r s (o.shape s i).down (inl l)))
-        by (Under l) = Side (Right s (has_under r ss s i (o.shape s i).down l) (k ∙ ap (first_of r) j ∙ right_whole r s (o.shape s i).down (inr l)))
-        by (Across c) = Side (Right (upper_part r s) (has_upper r ss s i c) (k ∙ ap (first_of r) j ∙ right_first r s c))
+        by (Over l) = Side (Right s (has_over r ss s i (o.shape s i).down l) (k ∙ ap (begin_of r) j ∙ right_whole r s (o.shape s i).down (inl l)))
+        by (Under l) = Side (Right s (has_under r ss s i (o.shape s i).down l) (k ∙ ap (begin_of r) j ∙ right_whole r s (o.shape s i).down (inr l)))
+        by (Across c) = Side (Right (upper_part r s) (has_upper r ss s i c) (k ∙ ap (begin_of r) j ∙ right_first r s c))
     first (Level l) = Level (subst (IsLevelPart (cut r ss)) (sym (k ∙ level_whole r ss e l)) (level_kept r ss e o l))
 parts_bound r ss es g o b (Final e h x k) =
     let a = crossed_side r ss e o (is_bound ss es b e h) x in

@@ -19,7 +19,7 @@ use Rattle.rings.proofs.Lines.{line, along, GoesOn, IsGood, direction_low, good_
 use Rattle.rings.proofs.Turning.{AreApart}
 use Rattle.rings.proofs.Unique.{AreSame}
 use Rattle.rings.proofs.Parted.{AreGood, IsWithin, first_direction, second_direction}
-use Rattle.same_points.specs.Edges.{is_crossed, place, first_of, final_of, parts_of, parted}
+use Rattle.same_points.specs.Edges.{is_crossed, crossing_place, begin_of, final_of, parts_of, parted}
 use Rattle.same_points.proofs.Sides.{side_is, bool_cases}
 
 -- ---- between
@@ -44,7 +44,7 @@ up_between a z b l m = rw (less_true a z l) (rw (less_true z b m) refl)
 pub down_between : (a z b : ℤ) → b <ℤ z → z <ℤ a → is_strictly_between a z b ≡ true
 down_between a z b l m = rw (less_false a z (omega (arith, ints, m))) (rw (less_true b z l) (rw (less_true z a m) refl))
 
--- ---- the place where an edge crosses a row is strictly inside
+-- ---- the crossing_place where an edge crosses a row is strictly inside
 sloped_at : (e : Edge) → IsOctilinear e → (e.start.y ≡ e.finish.y → ⊥) → IsSloped e.start.y e.finish.y e.start.x e.finish.x
 unfolding IsOctilinear
 sloped_at e (inl k) n = absurd (n k)
@@ -68,30 +68,30 @@ within_at (suc (suc (suc (suc (suc (suc zero)))))) h e q g s m = let l = g.line 
 within_at (suc (suc (suc (suc (suc (suc (suc zero))))))) h e q g s m = let l = g.line in let o = g.on in (omega (arith, ints, l, o, s, m), omega (arith, ints, l, o, s, m), omega (arith, ints, l, o, s, m))
 within_at (suc (suc (suc (suc (suc (suc (suc (suc d)))))))) h e q g s m = absurd (omega (arith, h))
 
-pub place_at : (r : ℤ) (e : Edge) → IsGood e → is_crossed r e ≡ true → IsAt e.start.y e.finish.y e.start.x e.finish.x r (place r e).x
-unfolding place
+pub place_at : (r : ℤ) (e : Edge) → IsGood e → is_crossed r e ≡ true → IsAt e.start.y e.finish.y e.start.x e.finish.x r (crossing_place r e).x
+unfolding crossing_place
 place_at r e g h =
     let m = between_cases e.start.y r e.finish.y h in
     side_is e.start.y e.finish.y e.start.x e.finish.x r
     (elim m [ inl k ↦ inl (let a = k.0 in let b = k.1 in omega (arith, ints, a, b)) | inr k ↦ inr (let a = k.0 in let b = k.1 in omega (arith, ints, a, b)) ])
     (sloped_at e (good_octilinear e g) (λ k. omega (arith, ints, m, k)))
 
-pub crossed_within : (r : ℤ) (e : Edge) → IsGood e → is_crossed r e ≡ true → IsWithin e (place r e)
-unfolding Rows place
+pub crossed_within : (r : ℤ) (e : Edge) → IsGood e → is_crossed r e ≡ true → IsWithin e (crossing_place r e)
+unfolding Rows crossing_place
 crossed_within r e g h =
-    let w = within_at (direction e) (direction_low e) e (place r e) g (place_at r e g h) (between_cases e.start.y r e.finish.y h) in
+    let w = within_at (direction e) (direction_low e) e (crossing_place r e) g (place_at r e g h) (between_cases e.start.y r e.finish.y h) in
     record { line = w.0; after = w.1; before = w.2 }
 
 -- ---- the two parts
-pub first_true : (r : ℤ) (e : Edge) → is_crossed r e ≡ true → first_of r e ≡ first_part e (place r e)
-unfolding first_of
+pub first_true : (r : ℤ) (e : Edge) → is_crossed r e ≡ true → begin_of r e ≡ first_part e (crossing_place r e)
+unfolding begin_of
 first_true r e h = rw h refl
 
-pub first_false : (r : ℤ) (e : Edge) → is_crossed r e ≡ false → first_of r e ≡ e
-unfolding first_of
+pub first_false : (r : ℤ) (e : Edge) → is_crossed r e ≡ false → begin_of r e ≡ e
+unfolding begin_of
 first_false r e h = rw h refl
 
-pub final_true : (r : ℤ) (e : Edge) → is_crossed r e ≡ true → final_of r e ≡ second_part e (place r e)
+pub final_true : (r : ℤ) (e : Edge) → is_crossed r e ≡ true → final_of r e ≡ second_part e (crossing_place r e)
 unfolding final_of
 final_true r e h = rw h refl
 
@@ -99,7 +99,7 @@ pub final_false : (r : ℤ) (e : Edge) → is_crossed r e ≡ false → final_of
 unfolding final_of
 final_false r e h = rw h refl
 
-pub parts_true : (r : ℤ) (e : Edge) → is_crossed r e ≡ true → parts_of r e ≡ first_of r e ∷ final_of r e ∷ []
+pub parts_true : (r : ℤ) (e : Edge) → is_crossed r e ≡ true → parts_of r e ≡ begin_of r e ∷ final_of r e ∷ []
 unfolding parts_of
 parts_true r e h = rw h refl
 
@@ -107,27 +107,27 @@ pub parts_false : (r : ℤ) (e : Edge) → is_crossed r e ≡ false → parts_of
 unfolding parts_of
 parts_false r e h = rw h refl
 
-pub first_start : (r : ℤ) (e : Edge) → (first_of r e).start ≡ e.start
+pub first_start : (r : ℤ) (e : Edge) → (begin_of r e).start ≡ e.start
 first_start r e = elim (bool_cases (is_crossed r e)) [ inl h ↦ ap (λ z. z.start) (first_true r e h) | inr h ↦ ap (λ z. z.start) (first_false r e h) ]
 
 pub final_finish : (r : ℤ) (e : Edge) → (final_of r e).finish ≡ e.finish
 final_finish r e = elim (bool_cases (is_crossed r e)) [ inl h ↦ ap (λ z. z.finish) (final_true r e h) | inr h ↦ ap (λ z. z.finish) (final_false r e h) ]
 
-pub first_way : (r : ℤ) (e : Edge) → IsGood e → direction (first_of r e) ≡ direction e
+pub first_way : (r : ℤ) (e : Edge) → IsGood e → direction (begin_of r e) ≡ direction e
 first_way r e g = elim (bool_cases (is_crossed r e)) [
-  | inl h ↦ ap direction (first_true r e h) ∙ first_direction e (place r e) (crossed_within r e g h)
+  | inl h ↦ ap direction (first_true r e h) ∙ first_direction e (crossing_place r e) (crossed_within r e g h)
   | inr h ↦ ap direction (first_false r e h)
 ]
 
 pub final_way : (r : ℤ) (e : Edge) → IsGood e → direction (final_of r e) ≡ direction e
 final_way r e g = elim (bool_cases (is_crossed r e)) [
-  | inl h ↦ ap direction (final_true r e h) ∙ second_direction e (place r e) g (crossed_within r e g h)
+  | inl h ↦ ap direction (final_true r e h) ∙ second_direction e (crossing_place r e) g (crossed_within r e g h)
   | inr h ↦ ap direction (final_false r e h)
 ]
 
 -- ---- the edges of the cut list
 pub data IsCutOf (r : ℤ) (es : List Edge) (g : Edge) : Type 0 where
-  First : (e : Edge) → Has es e → g ≡ first_of r e → IsCutOf r es g
+  First : (e : Edge) → Has es e → g ≡ begin_of r e → IsCutOf r es g
   Final : (e : Edge) → Has es e → is_crossed r e ≡ true → g ≡ final_of r e → IsCutOf r es g
 
 more_cut : (r : ℤ) (e : Edge) (es : List Edge) (g : Edge) → IsCutOf r es g → IsCutOf r (e ∷ es) g
@@ -146,11 +146,11 @@ has_parted r (e ∷ es) g h = elim (has_parts (parts_of r e) (parted r es) g h) 
   | inr i ↦ more_cut r e es g (has_parted r es g i)
 ]
 
-one_first : (r : ℤ) (e : Edge) → Has (parts_of r e) (first_of r e)
+one_first : (r : ℤ) (e : Edge) → Has (parts_of r e) (begin_of r e)
 unfolding Has
 one_first r e = elim (bool_cases (is_crossed r e)) [
-  | inl c ↦ subst (λ zs. Has zs (first_of r e)) (sym (parts_true r e c)) (inl refl)
-  | inr c ↦ subst (λ zs. Has zs (first_of r e)) (sym (parts_false r e c)) (inl (sym (first_false r e c)))
+  | inl c ↦ subst (λ zs. Has zs (begin_of r e)) (sym (parts_true r e c)) (inl refl)
+  | inr c ↦ subst (λ zs. Has zs (begin_of r e)) (sym (parts_false r e c)) (inl (sym (first_false r e c)))
 ]
 
 one_final : (r : ℤ) (e : Edge) → Has (parts_of r e) (final_of r e)
@@ -160,11 +160,11 @@ one_final r e = elim (bool_cases (is_crossed r e)) [
   | inr c ↦ subst (λ zs. Has zs (final_of r e)) (sym (parts_false r e c)) (inl (sym (final_false r e c)))
 ]
 
-pub first_has : (r : ℤ) (es : List Edge) (e : Edge) → Has es e → Has (parted r es) (first_of r e)
+pub first_has : (r : ℤ) (es : List Edge) (e : Edge) → Has es e → Has (parted r es) (begin_of r e)
 unfolding parted Has
 first_has r [] e h = absurd h
-first_has r (d ∷ es) e (inl k) = has_left (parts_of r d) (parted r es) (first_of r e) (subst (λ z. Has (parts_of r d) (first_of r z)) k (one_first r d))
-first_has r (d ∷ es) e (inr h) = has_right (parts_of r d) (parted r es) (first_of r e) (first_has r es e h)
+first_has r (d ∷ es) e (inl k) = has_left (parts_of r d) (parted r es) (begin_of r e) (subst (λ z. Has (parts_of r d) (begin_of r z)) k (one_first r d))
+first_has r (d ∷ es) e (inr h) = has_right (parts_of r d) (parted r es) (begin_of r e) (first_has r es e h)
 
 pub final_has : (r : ℤ) (es : List Edge) (e : Edge) → Has es e → Has (parted r es) (final_of r e)
 unfolding parted Has
@@ -186,22 +186,22 @@ pub record IsCuttable (r : ℤ) (es : List Edge) : Type 0 where
   pub good : AreGood es
   pub apart : AreApart es
   pub clear : (e f : Edge) → Has es e → Has es f → is_crossed r e ≡ true → f.start.y ≡ r → ⊥
-  pub places : (e f : Edge) → Has es e → Has es f → is_crossed r e ≡ true → is_crossed r f ≡ true → place r e ≡ place r f → e ≡ f
+  pub places : (e f : Edge) → Has es e → Has es f → is_crossed r e ≡ true → is_crossed r f ≡ true → crossing_place r e ≡ crossing_place r f → e ≡ f
 
 pub good_of : (r : ℤ) (es : List Edge) → IsCuttable r es → (e : Edge) → Has es e → IsGood e
 unfolding AreGood
 good_of r es c e h = c.good e h
 
-final_starts : (r : ℤ) (e : Edge) → is_crossed r e ≡ true → (final_of r e).start ≡ place r e
+final_starts : (r : ℤ) (e : Edge) → is_crossed r e ≡ true → (final_of r e).start ≡ crossing_place r e
 final_starts r e h = ap (λ z. z.start) (final_true r e h)
 
-pub place_row : (r : ℤ) (e : Edge) → (place r e).y ≡ r
-unfolding place
+pub place_row : (r : ℤ) (e : Edge) → (crossing_place r e).y ≡ r
+unfolding crossing_place
 place_row r e = refl
 
--- a first part begins no place of a crossing
-not_begun : (r : ℤ) (es : List Edge) → IsCuttable r es → (e f : Edge) → Has es e → Has es f → is_crossed r e ≡ true → (first_of r f).start ≡ place r e → ⊥
-unfolding place
+-- a first part begins no crossing_place of a crossing
+not_begun : (r : ℤ) (es : List Edge) → IsCuttable r es → (e f : Edge) → Has es e → Has es f → is_crossed r e ≡ true → (begin_of r f).start ≡ crossing_place r e → ⊥
+unfolding crossing_place
 not_begun r es c e f h i k s = c.clear e f h i k (ap (λ z. z.y) (sym (first_start r f) ∙ s))
 
 turn_same : (e f : Edge) (c d : ℕ) → direction e ≡ direction f → c ≡ d → turn_to e c ≡ turn_to f d
@@ -213,28 +213,28 @@ unfolding turn_to
 turn_on e d k = let l = direction_low e in omega (arith, l, k)
 
 -- from the end of an edge one goes on to the next edge's first part
-pub next_first : (r : ℤ) (es : List Edge) → IsCuttable r es → (e f : Edge) → Has es e → IsNextEdge es e f → IsNextEdge (parted r es) (final_of r e) (first_of r f)
+pub next_first : (r : ℤ) (es : List Edge) → IsCuttable r es → (e f : Edge) → Has es e → IsNextEdge es e f → IsNextEdge (parted r es) (final_of r e) (begin_of r f)
 next_first r es c e f h n =
     let i = has_of es f n.one in
     let ge = good_of r es c e h in
     record {
-      one = of_has (parted r es) (first_of r f) (first_has r es f i);
+      one = of_has (parted r es) (begin_of r f) (first_has r es f i);
       joins = first_start r f ∙ n.joins ∙ sym (final_finish r e);
       first = λ g k j. least g (has_parted r es g (has_of (parted r es) g k)) (j ∙ final_finish r e);
     }
   where
-    least : (g : Edge) → IsCutOf r es g → g.start ≡ e.finish → turn_to (final_of r e) (direction (first_of r f)) ≤ turn_to (final_of r e) (direction g)
+    least : (g : Edge) → IsCutOf r es g → g.start ≡ e.finish → turn_to (final_of r e) (direction (begin_of r f)) ≤ turn_to (final_of r e) (direction g)
     least g (First d m k) j =
         let ge = good_of r es c e h in
         let a = n.first d (of_has es d m) (sym (first_start r d) ∙ sym (ap (λ z. z.start) k) ∙ j) in
-        let b = turn_same (final_of r e) e (direction (first_of r f)) (direction f) (final_way r e ge) (first_way r f (good_of r es c f (has_of es f n.one))) in
+        let b = turn_same (final_of r e) e (direction (begin_of r f)) (direction f) (final_way r e ge) (first_way r f (good_of r es c f (has_of es f n.one))) in
         let q = turn_same (final_of r e) e (direction g) (direction d) (final_way r e ge) (ap direction k ∙ first_way r d (good_of r es c d m)) in
         omega (arith, a, b, q)
     least g (Final d m x k) j =
         absurd (c.clear d f m (has_of es f n.one) x (ap (λ z. z.y) (n.joins ∙ sym j ∙ ap (λ z. z.start) k ∙ final_starts r d x) ∙ place_row r d))
 
 -- and from the first part of an edge to its second
-pub next_within : (r : ℤ) (es : List Edge) → IsCuttable r es → (e : Edge) → Has es e → is_crossed r e ≡ true → IsNextEdge (parted r es) (first_of r e) (final_of r e)
+pub next_within : (r : ℤ) (es : List Edge) → IsCuttable r es → (e : Edge) → Has es e → is_crossed r e ≡ true → IsNextEdge (parted r es) (begin_of r e) (final_of r e)
 next_within r es c e h x =
     record {
       one = of_has (parted r es) (final_of r e) (final_has r es e h);
@@ -242,15 +242,15 @@ next_within r es c e h x =
       first = λ g k j. least g (has_parted r es g (has_of (parted r es) g k)) (j ∙ ap (λ z. z.finish) (first_true r e x));
     }
   where
-    least : (g : Edge) → IsCutOf r es g → g.start ≡ place r e → turn_to (first_of r e) (direction (final_of r e)) ≤ turn_to (first_of r e) (direction g)
+    least : (g : Edge) → IsCutOf r es g → g.start ≡ crossing_place r e → turn_to (begin_of r e) (direction (final_of r e)) ≤ turn_to (begin_of r e) (direction g)
     least g (First d m k) j = absurd (not_begun r es c e d h m x (sym (ap (λ z. z.start) k) ∙ j))
     least g (Final d m y k) j =
         let s = c.places d e m h y x (sym (final_starts r d y) ∙ sym (ap (λ z. z.start) k) ∙ j) in
-        let q = ap (λ z. turn_to (first_of r e) (direction z)) (k ∙ ap (final_of r) s) in
+        let q = ap (λ z. turn_to (begin_of r e) (direction z)) (k ∙ ap (final_of r) s) in
         omega (arith, q)
 
 -- ---- none stands twice
-first_not_final : (r : ℤ) (e : Edge) → IsGood e → is_crossed r e ≡ true → first_of r e ≡ final_of r e → ⊥
+first_not_final : (r : ℤ) (e : Edge) → IsGood e → is_crossed r e ≡ true → begin_of r e ≡ final_of r e → ⊥
 first_not_final r e g h k =
     let a = (crossed_within r e g h).after in
     let b = ap (λ z. along (direction e) z.start) (sym (first_true r e h) ∙ k ∙ final_true r e h) in
@@ -266,15 +266,15 @@ parts_once r e g = elim (bool_cases (is_crossed r e)) [
 pub cut_same : (r : ℤ) (es : List Edge) → IsCuttable r es → (d e g : Edge) → Has es d → Has es e → IsCutOf r (d ∷ []) g → IsCutOf r (e ∷ []) g → d ≡ e
 unfolding Has AreApart
 cut_same r es c d e g h i (First a x k) (First b y l) =
-    let k' = (subst (λ z. g ≡ first_of r z) (sym (only d a x)) k) in
-    let l' = (subst (λ z. g ≡ first_of r z) (sym (only e b y)) l) in
+    let k' = (subst (λ z. g ≡ begin_of r z) (sym (only d a x)) k) in
+    let l' = (subst (λ z. g ≡ begin_of r z) (sym (only e b y)) l) in
     same d e h i (sym k' ∙ l')
   where
     only : (p q : Edge) → Has (p ∷ []) q → p ≡ q
     only p q (inl k) = k
     only p q (inr k) = absurd k
 
-    same : (d e : Edge) → Has es d → Has es e → first_of r d ≡ first_of r e → d ≡ e
+    same : (d e : Edge) → Has es d → Has es e → begin_of r d ≡ begin_of r e → d ≡ e
     same d e h i k =
         c.apart d e h i (sym (first_start r d) ∙ ap (λ z. z.start) k ∙ first_start r e)
         (sym (first_way r d (good_of r es c d h)) ∙ ap direction k ∙ first_way r e (good_of r es c e i))

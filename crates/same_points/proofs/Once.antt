@@ -37,7 +37,7 @@ place_even t u l le v (inl a) = let c = a.1 in (pos 8 *ℤ l, omega (arith, ints
 place_even t u l le v (inr (inl a)) = let c = a.1 in (pos 8 *ℤ l +ℤ pos 4 *ℤ (u -ℤ t) +ℤ pos 1, omega (arith, ints, c))
 place_even t u l le v (inr (inr a)) = let c = a.1 in (pos 8 *ℤ l -ℤ pos 4 *ℤ (u -ℤ t) -ℤ pos 1, omega (arith, ints, c))
 
--- the place tells the side
+-- the crossing_place tells the side
 place_tells : (t u l le m me v : ℤ) → t <ℤ u → PlaceAt t u l le v → PlaceAt t u m me v → (l ≡ m) × (le ≡ me)
 place_tells t u l le m me v d a b = (omega (arith, ints), omega (arith, ints))
 

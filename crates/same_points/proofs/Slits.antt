@@ -23,7 +23,7 @@ use Rattle.rings.proofs.Unique.{IsDrawn, drawn}
 use Rattle.rings.proofs.Permuted.{contours_permuted, loops_permuted}
 use Rattle.rings.proofs.Heads.{contour_visit, visit_next}
 use Rattle.rings.proofs.Rings.{AreTidy, tidy_with, hole_loop, ways_cases}
-use Rattle.same_points.specs.Edges.{is_crossed, place, final_of, parts_of, parted}
+use Rattle.same_points.specs.Edges.{is_crossed, crossing_place, final_of, parts_of, parted}
 use Rattle.same_points.proofs.Sides.{bool_cases}
 use Rattle.same_points.proofs.Edges.{IsCuttable, between_cases, first_true, final_true, parts_true, parts_false, crossed_within, parted_append}
 use Rattle.same_points.proofs.Visits.{contours_parted, loops_parted, all_parted}
@@ -35,9 +35,9 @@ one_alike r e g = elim (bool_cases (is_crossed r e)) [
       let w = crossed_within r e g i in
       let a = w.after in
       let b = w.before in
-      subst (λ fs. AreAlike fs (e ∷ [])) (sym (parts_true r e i ∙ ap (λ z. z ∷ final_of r e ∷ []) (first_true r e i) ∙ ap (λ z. first_part e (place r e) ∷ z ∷ []) (final_true r e i)))
-      (alike_sym (e ∷ []) (first_part e (place r e) ∷ second_part e (place r e) ∷ [])
-      (straight_alike e.start (place r e) e.finish (straight_at (direction e) (direction_low e) e.start (place r e) e.finish w.line g.line (omega (arith, ints, a)) (omega (arith, ints, b))))))
+      subst (λ fs. AreAlike fs (e ∷ [])) (sym (parts_true r e i ∙ ap (λ z. z ∷ final_of r e ∷ []) (first_true r e i) ∙ ap (λ z. first_part e (crossing_place r e) ∷ z ∷ []) (final_true r e i)))
+      (alike_sym (e ∷ []) (first_part e (crossing_place r e) ∷ second_part e (crossing_place r e) ∷ [])
+      (straight_alike e.start (crossing_place r e) e.finish (straight_at (direction e) (direction_low e) e.start (crossing_place r e) e.finish w.line g.line (omega (arith, ints, a)) (omega (arith, ints, b))))))
   | inr i ↦ subst (λ fs. AreAlike fs (e ∷ [])) (sym (parts_false r e i)) (alike_refl (e ∷ []))
 ]
 

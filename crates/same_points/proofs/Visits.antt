@@ -17,7 +17,7 @@ use Rattle.rings.proofs.Unique.{AreSame, same_back, edge_test, same_edge}
 use Rattle.rings.proofs.Permuted.{permuted_same}
 use Rattle.rings.proofs.Bends.{tail_bends, bends_yes, bends_no}
 use Rattle.rings.proofs.Heads.{visit_goes, goes_has, comes_has, visit_next, last_in}
-use Rattle.same_points.specs.Edges.{is_crossed, place, first_of, final_of, parted}
+use Rattle.same_points.specs.Edges.{is_crossed, crossing_place, begin_of, final_of, parted}
 use Rattle.same_points.proofs.Sides.{bool_cases}
 use Rattle.same_points.proofs.Edges.{IsCuttable, good_of, first_start, first_way, final_way, first_false, final_true, final_false, parts_true, parts_false, between_cases, next_first, next_within, parted_append, parted_once, permuted_of, first_has, IsCutOf, First, Final, has_parted, cut_has}
 
@@ -27,16 +27,16 @@ visit a b = record { comes = a; goes = b }
 
 -- the visits of the walk along the parts, from the last part of p on
 after_true : (r : ℤ) (p x : Edge) (xs : List Edge) → is_crossed r x ≡ true
-    → visits_after p (parted r (x ∷ xs)) ≡ visit p (first_of r x) ∷ visit (first_of r x) (final_of r x) ∷ visits_after (final_of r x) (parted r xs)
+    → visits_after p (parted r (x ∷ xs)) ≡ visit p (begin_of r x) ∷ visit (begin_of r x) (final_of r x) ∷ visits_after (final_of r x) (parted r xs)
 unfolding visits_after parted
 after_true r p x xs h = ap (λ zs. visits_after p (zs ++ parted r xs)) (parts_true r x h)
 
 after_false : (r : ℤ) (p x : Edge) (xs : List Edge) → is_crossed r x ≡ false
-    → visits_after p (parted r (x ∷ xs)) ≡ visit p (first_of r x) ∷ visits_after (final_of r x) (parted r xs)
+    → visits_after p (parted r (x ∷ xs)) ≡ visit p (begin_of r x) ∷ visits_after (final_of r x) (parted r xs)
 unfolding visits_after parted
 after_false r p x xs h =
     ap (λ zs. visits_after p (zs ++ parted r xs)) (parts_false r x h)
-    ∙ (ap (λ z. visit p z ∷ visits_after x (parted r xs)) (sym (first_false r x h)) ∙ ap (λ z. visit p (first_of r x) ∷ visits_after z (parted r xs)) (sym (final_false r x h)))
+    ∙ (ap (λ z. visit p z ∷ visits_after x (parted r xs)) (sym (first_false r x h)) ∙ ap (λ z. visit p (begin_of r x) ∷ visits_after z (parted r xs)) (sym (final_false r x h)))
 
 last_parted : (r : ℤ) (p x : Edge) (xs : List Edge) → last_of p (parted r (x ∷ xs)) ≡ last_of (final_of r x) (parted r xs)
 unfolding last_of parted
@@ -53,7 +53,7 @@ last_final r a (b ∷ bs) = last_parted r (final_of r a) b bs ∙ last_final r b
 visits_parted : (r : ℤ) (a : Edge) (bs : List Edge) → visits (parted r (a ∷ bs)) ≡ visits_after (final_of r (last_of a bs)) (parted r (a ∷ bs))
 unfolding visits parted visits_after last_of
 visits_parted r a bs = elim (bool_cases (is_crossed r a)) [
-  | inl h ↦ at (first_of r a) (final_of r a ∷ parted r bs) (ap (λ zs. zs ++ parted r bs) (parts_true r a h))
+  | inl h ↦ at (begin_of r a) (final_of r a ∷ parted r bs) (ap (λ zs. zs ++ parted r bs) (parts_true r a h))
   | inr h ↦ at a (parted r bs) (ap (λ zs. zs ++ parted r bs) (parts_false r a h))
 ]
   where
@@ -65,8 +65,8 @@ visits_parted r a bs = elim (bool_cases (is_crossed r a)) [
 
 -- ---- which they are
 pub data IsVisitOf (r : ℤ) (w : List Edge) (vs : List Visit) (u : Visit) : Type 0 where
-  Old : (v : Visit) → Has vs v → u ≡ record { comes = final_of r v.comes; goes = first_of r v.goes } → IsVisitOf r w vs u
-  New : (e : Edge) → Has w e → is_crossed r e ≡ true → u ≡ record { comes = first_of r e; goes = final_of r e } → IsVisitOf r w vs u
+  Old : (v : Visit) → Has vs v → u ≡ record { comes = final_of r v.comes; goes = begin_of r v.goes } → IsVisitOf r w vs u
+  New : (e : Edge) → Has w e → is_crossed r e ≡ true → u ≡ record { comes = begin_of r e; goes = final_of r e } → IsVisitOf r w vs u
 
 more_visit : (r : ℤ) (w : List Edge) (vs : List Visit) (e : Edge) (v u : Visit) → IsVisitOf r w vs u → IsVisitOf r (e ∷ w) (v ∷ vs) u
 unfolding Has
@@ -90,14 +90,14 @@ after_visit r p (x ∷ xs) u h = elim (bool_cases (is_crossed r x)) [
   ]
 ]
 
-visit_after : (r : ℤ) (p : Edge) (xs : List Edge) (v : Visit) → Has (visits_after p xs) v → Has (visits_after (final_of r p) (parted r xs)) (visit (final_of r v.comes) (first_of r v.goes))
+visit_after : (r : ℤ) (p : Edge) (xs : List Edge) (v : Visit) → Has (visits_after p xs) v → Has (visits_after (final_of r p) (parted r xs)) (visit (final_of r v.comes) (begin_of r v.goes))
 unfolding visits_after parted Has
 visit_after r p [] v h = absurd h
 visit_after r p (x ∷ xs) v h = elim (bool_cases (is_crossed r x)) [
-  | inl c ↦ subst (λ zs. Has zs (visit (final_of r v.comes) (first_of r v.goes))) (sym (after_true r (final_of r p) x xs c))
-      (elim h [ inl k ↦ inl (ap (λ z. visit (final_of r z.comes) (first_of r z.goes)) k) | inr i ↦ inr (inr (visit_after r x xs v i)) ])
-  | inr c ↦ subst (λ zs. Has zs (visit (final_of r v.comes) (first_of r v.goes))) (sym (after_false r (final_of r p) x xs c))
-      (elim h [ inl k ↦ inl (ap (λ z. visit (final_of r z.comes) (first_of r z.goes)) k) | inr i ↦ inr (visit_after r x xs v i) ])
+  | inl c ↦ subst (λ zs. Has zs (visit (final_of r v.comes) (begin_of r v.goes))) (sym (after_true r (final_of r p) x xs c))
+      (elim h [ inl k ↦ inl (ap (λ z. visit (final_of r z.comes) (begin_of r z.goes)) k) | inr i ↦ inr (inr (visit_after r x xs v i)) ])
+  | inr c ↦ subst (λ zs. Has zs (visit (final_of r v.comes) (begin_of r v.goes))) (sym (after_false r (final_of r p) x xs c))
+      (elim h [ inl k ↦ inl (ap (λ z. visit (final_of r z.comes) (begin_of r z.goes)) k) | inr i ↦ inr (visit_after r x xs v i) ])
 ]
 
 pub visit_of : (r : ℤ) (w : List Edge) (u : Visit) → Has (visits (parted r w)) u → IsVisitOf r w (visits w) u
@@ -105,10 +105,10 @@ unfolding visits parted Has
 visit_of r [] u h = absurd h
 visit_of r (a ∷ bs) u h = after_visit r (last_of a bs) (a ∷ bs) u (subst (λ zs. Has zs u) (visits_parted r a bs) h)
 
-pub old_visit : (r : ℤ) (w : List Edge) (v : Visit) → Has (visits w) v → Has (visits (parted r w)) (visit (final_of r v.comes) (first_of r v.goes))
+pub old_visit : (r : ℤ) (w : List Edge) (v : Visit) → Has (visits w) v → Has (visits (parted r w)) (visit (final_of r v.comes) (begin_of r v.goes))
 unfolding visits parted Has
 old_visit r [] v h = absurd h
-old_visit r (a ∷ bs) v h = subst (λ zs. Has zs (visit (final_of r v.comes) (first_of r v.goes))) (sym (visits_parted r a bs)) (visit_after r (last_of a bs) (a ∷ bs) v h)
+old_visit r (a ∷ bs) v h = subst (λ zs. Has zs (visit (final_of r v.comes) (begin_of r v.goes))) (sym (visits_parted r a bs)) (visit_after r (last_of a bs) (a ∷ bs) v h)
 
 -- ---- a walk stays a walk
 pub walk_in : (es w : List Edge) → IsWalk es w → (e : Edge) → Has w e → Has es e
@@ -117,7 +117,7 @@ walk_in es w i e h = let v = visit_goes w e h in subst (Has es) v.2 (has_of es v
 not_none : (r : ℤ) (w : List Edge) → (w ≡ [] → ⊥) → parted r w ≡ [] → ⊥
 unfolding parted Has
 not_none r [] n e = n refl
-not_none r (a ∷ bs) n e = subst (λ zs. Has zs (first_of r a)) e (first_has r (a ∷ bs) a (inl refl))
+not_none r (a ∷ bs) n e = subst (λ zs. Has zs (begin_of r a)) e (first_has r (a ∷ bs) a (inl refl))
 
 pub walk_parted : (r : ℤ) (es w : List Edge) → IsCuttable r es → IsWalk es w → IsWalk (parted r es) (parted r w)
 walk_parted r es w c i = record {
@@ -147,26 +147,26 @@ unfolding tail_bends visits_after parted Has AllGood
 bends_after r p q [] d g = refl
 bends_after r p q (x ∷ xs) d g = by (bends_after r x (final_of r x) xs (final_way r x (g x (inl refl))) (λ e h. g e (inr h)))
   where
-    straight : is_crossed r x ≡ true → map visit_corner (filter is_bend (visit (first_of r x) (final_of r x) ∷ visits_after (final_of r x) (parted r xs))) ≡ tail_bends (final_of r x) (parted r xs)
-    straight c = let k = no_bend (first_of r x) (final_of r x) (first_way r x (g x (inl refl)) ∙ sym (final_way r x (g x (inl refl)))) in rw k refl
+    straight : is_crossed r x ≡ true → map visit_corner (filter is_bend (visit (begin_of r x) (final_of r x) ∷ visits_after (final_of r x) (parted r xs))) ≡ tail_bends (final_of r x) (parted r xs)
+    straight c = let k = no_bend (begin_of r x) (final_of r x) (first_way r x (g x (inl refl)) ∙ sym (final_way r x (g x (inl refl)))) in rw k refl
 
-    yes : (vs : List Visit) → is_bend (visit q (first_of r x)) ≡ true → map visit_corner (filter is_bend (visit q (first_of r x) ∷ vs)) ≡ (first_of r x).start ∷ map visit_corner (filter is_bend vs)
+    yes : (vs : List Visit) → is_bend (visit q (begin_of r x)) ≡ true → map visit_corner (filter is_bend (visit q (begin_of r x) ∷ vs)) ≡ (begin_of r x).start ∷ map visit_corner (filter is_bend vs)
     yes vs h = rw h refl
 
-    none : (vs : List Visit) → is_bend (visit q (first_of r x)) ≡ false → map visit_corner (filter is_bend (visit q (first_of r x) ∷ vs)) ≡ map visit_corner (filter is_bend vs)
+    none : (vs : List Visit) → is_bend (visit q (begin_of r x)) ≡ false → map visit_corner (filter is_bend (visit q (begin_of r x) ∷ vs)) ≡ map visit_corner (filter is_bend vs)
     none vs h = rw h refl
 
     turn : (b : Bool) → is_bend (visit p x) ≡ b → (vs : List Visit) → map visit_corner (filter is_bend vs) ≡ tail_bends x xs
-        → map visit_corner (filter is_bend (visit q (first_of r x) ∷ vs)) ≡ tail_bends p (x ∷ xs)
+        → map visit_corner (filter is_bend (visit q (begin_of r x) ∷ vs)) ≡ tail_bends p (x ∷ xs)
     turn true e vs k =
-        yes vs (bend_same q (first_of r x) p x d (first_way r x (g x (inl refl))) ∙ e)
+        yes vs (bend_same q (begin_of r x) p x d (first_way r x (g x (inl refl))) ∙ e)
         ∙ (ap (λ z. z ∷ map visit_corner (filter is_bend vs)) (first_start r x) ∙ (ap (λ zs. x.start ∷ zs) k ∙ sym (bends_yes p x xs e)))
-    turn false e vs k = none vs (bend_same q (first_of r x) p x d (first_way r x (g x (inl refl))) ∙ e) ∙ (k ∙ sym (bends_no p x xs e))
+    turn false e vs k = none vs (bend_same q (begin_of r x) p x d (first_way r x (g x (inl refl))) ∙ e) ∙ (k ∙ sym (bends_no p x xs e))
 
     by : tail_bends (final_of r x) (parted r xs) ≡ tail_bends x xs → tail_bends q (parted r (x ∷ xs)) ≡ tail_bends p (x ∷ xs)
     by more = elim (bool_cases (is_crossed r x)) [
       | inl c ↦ ap (λ vs. map visit_corner (filter is_bend vs)) (after_true r q x xs c)
-          ∙ turn (is_bend (visit p x)) refl (visit (first_of r x) (final_of r x) ∷ visits_after (final_of r x) (parted r xs)) (straight c ∙ more)
+          ∙ turn (is_bend (visit p x)) refl (visit (begin_of r x) (final_of r x) ∷ visits_after (final_of r x) (parted r xs)) (straight c ∙ more)
       | inr c ↦ ap (λ vs. map visit_corner (filter is_bend vs)) (after_false r q x xs c) ∙ turn (is_bend (visit p x)) refl (visits_after (final_of r x) (parted r xs)) more
     ]
 
@@ -256,31 +256,31 @@ visit_comes (a ∷ bs) e h = elim (comes_in a bs e h) [
   | inr r ↦ (r.0, inr r.1, r.2)
 ]
 
--- the place of a crossing isn't the least corner: one end of the edge is above it
+-- the crossing_place of a crossing isn't the least corner: one end of the edge is above it
 end_above : (r : ℤ) (e : Edge) → is_crossed r e ≡ true → (e.start.y <ℤ r) ⊎ (e.finish.y <ℤ r)
 end_above r e h = elim (between_cases e.start.y r e.finish.y h) [ inl k ↦ inl k.0 | inr k ↦ inr k.0 ]
 
-less_place : (r : ℤ) (a : Point) (e : Edge) → a.y <ℤ r → IsLess a (place r e)
-unfolding IsLess place
+less_place : (r : ℤ) (a : Point) (e : Edge) → a.y <ℤ r → IsLess a (crossing_place r e)
+unfolding IsLess crossing_place
 less_place r a e l = inl l
 
--- a corner that isn't before the ends of the edge isn't before its place
-place_after : (r : ℤ) (a c : Point) (e : Edge) → a.y <ℤ r → (IsLess a c → ⊥) → IsLess (place r e) c → ⊥
-unfolding IsLess place
+-- a corner that isn't before the ends of the edge isn't before its crossing_place
+place_after : (r : ℤ) (a c : Point) (e : Edge) → a.y <ℤ r → (IsLess a c → ⊥) → IsLess (crossing_place r e) c → ⊥
+unfolding IsLess crossing_place
 place_after r a c e l n (inl k) = n (inl (omega (arith, ints, l, k)))
 place_after r a c e l n (inr k) = n (inl (let j = k.0 in omega (arith, ints, l, j)))
 
 hole_there : (r : ℤ) (es w : List Edge) → IsCuttable r es → IsWalk es w → IsHole w → IsHole (parted r w)
 unfolding IsHole
 hole_there r es w c i (v, o) = (
-  visit (final_of r v.comes) (first_of r v.goes),
+  visit (final_of r v.comes) (begin_of r v.goes),
   record {
     one = of_has (visits (parted r w)) _ (old_visit r w v (has_of (visits w) v o.one));
-    least = all_of (λ u. IsLess (visit_corner u) (first_of r v.goes).start → ⊥) (visits (parted r w)) (λ u h. subst (λ z. IsLess (visit_corner u) z → ⊥) (sym (first_start r v.goes)) (at u (visit_of r w u h)));
+    least = all_of (λ u. IsLess (visit_corner u) (begin_of r v.goes).start → ⊥) (visits (parted r w)) (λ u h. subst (λ z. IsLess (visit_corner u) z → ⊥) (sym (first_start r v.goes)) (at u (visit_of r w u h)));
     passes =
         let hv = has_of (visits w) v o.one in
         let a = turn_to_same (final_of r v.comes) v.comes 4 (final_way r v.comes (good_of r es c v.comes (walk_in es w i v.comes (comes_has w v hv)))) in
-        let b = turn_to_same (final_of r v.comes) v.comes (direction (first_of r v.goes)) (final_way r v.comes (good_of r es c v.comes (walk_in es w i v.comes (comes_has w v hv)))) in
+        let b = turn_to_same (final_of r v.comes) v.comes (direction (begin_of r v.goes)) (final_way r v.comes (good_of r es c v.comes (walk_in es w i v.comes (comes_has w v hv)))) in
         let d = ap (turn_to v.comes) (first_way r v.goes (good_of r es c v.goes (walk_in es w i v.goes (goes_has w v hv)))) in
         let p = o.passes in
         omega (arith, a, b, d, p);
@@ -315,7 +315,7 @@ hole_back r es w c i (u, o) = at (visit_of r w u (has_of (visits (parted r w)) u
   where
     none_less : (z : Visit) → Has (visits w) z → IsLess z.goes.start (visit_corner u) → ⊥
     none_less z h l =
-        all_at (λ t. IsLess (visit_corner t) (visit_corner u) → ⊥) (visits (parted r w)) (visit (final_of r z.comes) (first_of r z.goes)) o.least (old_visit r w z h)
+        all_at (λ t. IsLess (visit_corner t) (visit_corner u) → ⊥) (visits (parted r w)) (visit (final_of r z.comes) (begin_of r z.goes)) o.least (old_visit r w z h)
         (subst (λ q. IsLess q (visit_corner u)) (sym (first_start r z.goes)) l)
 
     at : IsVisitOf r w (visits w) u → (v : Visit) × IsOpenLeft w v
@@ -338,10 +338,10 @@ hole_back r es w c i (u, o) = at (visit_of r w u (has_of (visits (parted r w)) u
         elim (end_above r e x) [
           | inl m ↦ (
               let y = visit_goes w e h in
-              none_less y.0 y.1 (subst (IsLess y.0.goes.start) (sym q) (subst (λ z. IsLess z (place r e)) (sym (ap (λ (z : Edge). z.start) y.2)) (less_place r e.start e m))))
+              none_less y.0 y.1 (subst (IsLess y.0.goes.start) (sym q) (subst (λ z. IsLess z (crossing_place r e)) (sym (ap (λ (z : Edge). z.start) y.2)) (less_place r e.start e m))))
           | inr m ↦ (
               let y = visit_comes w e h in
-              none_less y.0 y.1 (subst (IsLess y.0.goes.start) (sym q) (subst (λ z. IsLess z (place r e)) (sym ((visit_next es w y.0 i y.1).joins ∙ ap (λ (z : Edge). z.finish) y.2)) (less_place r e.finish e m))))
+              none_less y.0 y.1 (subst (IsLess y.0.goes.start) (sym q) (subst (λ z. IsLess z (crossing_place r e)) (sym ((visit_next es w y.0 i y.1).joins ∙ ap (λ (z : Edge). z.finish) y.2)) (less_place r e.finish e m))))
         ])
 
 -- ---- the same loops

@@ -56,11 +56,11 @@ unfoldable pub cut : ℤ → List Strip → List Strip
 cut r ss = above r ss ++ below r ss
 
 -- the strips, cut at all these rows
-unfoldable pub cuts : List ℤ → List Strip → List Strip
-cuts [] ss = ss
-cuts (r ∷ rs) ss = cuts rs (cut r ss)
+unfoldable pub all_cut : List ℤ → List Strip → List Strip
+all_cut [] ss = ss
+all_cut (r ∷ rs) ss = all_cut rs (cut r ss)
 
 -- the first and the last row of each strip
-unfoldable pub rows_of : List Strip → List ℤ
-rows_of [] = []
-rows_of (s ∷ ss) = s.top ∷ s.bottom ∷ rows_of ss
+unfoldable pub strip_rows : List Strip → List ℤ
+strip_rows [] = []
+strip_rows (s ∷ ss) = s.top ∷ s.bottom ∷ strip_rows ss

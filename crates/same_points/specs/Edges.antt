@@ -10,20 +10,20 @@ abbrev pub is_crossed : ℤ → Edge → Bool
 is_crossed r e = is_strictly_between e.start.y r e.finish.y
 
 -- where the edge is in the row
-unfoldable pub place : ℤ → Edge → Point
-place r e = record { x = side_at e.start.y e.finish.y e.start.x e.finish.x r; y = r }
+unfoldable pub crossing_place : ℤ → Edge → Point
+crossing_place r e = record { x = side_at e.start.y e.finish.y e.start.x e.finish.x r; y = r }
 
 -- the part with which one begins to go along the edge: the edge itself where the row isn't crossed
-unfoldable pub first_of : ℤ → Edge → Edge
-first_of r e = if is_crossed r e then first_part e (place r e) else e
+unfoldable pub begin_of : ℤ → Edge → Edge
+begin_of r e = if is_crossed r e then first_part e (crossing_place r e) else e
 
 -- and the part with which one ends
 unfoldable pub final_of : ℤ → Edge → Edge
-final_of r e = if is_crossed r e then second_part e (place r e) else e
+final_of r e = if is_crossed r e then second_part e (crossing_place r e) else e
 
 -- the one part or the two parts of the edge
 unfoldable pub parts_of : ℤ → Edge → List Edge
-parts_of r e = if is_crossed r e then first_of r e ∷ final_of r e ∷ [] else e ∷ []
+parts_of r e = if is_crossed r e then begin_of r e ∷ final_of r e ∷ [] else e ∷ []
 
 -- the edges, cut at the row
 unfoldable pub parted : ℤ → List Edge → List Edge

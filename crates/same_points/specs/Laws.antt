@@ -11,7 +11,7 @@ use Rattle.rings.specs.Boundary.{AreBoundary}
 use Rattle.rings.specs.Loops.{Loop}
 use Rattle.rings.specs.Sheets.{AreLoops, AreRings}
 use Rattle.rings.specs.Laws.{AreOrderly}
-use Rattle.same_points.specs.Cuts.{cut, cuts, rows_of}
+use Rattle.same_points.specs.Cuts.{cut, all_cut, strip_rows}
 use Rattle.same_points.specs.Edges.{parted}
 
 -- each point is on both or on none
@@ -56,11 +56,11 @@ CutDrawnLaw = (r : ℤ) (ss : List Strip) → AreOrderly ss → AreDrawnAlike ss
 abbrev pub SameListLaw : Type 0
 SameListLaw =
     (rs : List ℤ) (ss ts : List Strip) → AreOrderly ss → AreOrderly ts → HaveSameOff rs ss ts
-    → cuts (rs ++ (rows_of ss ++ rows_of ts)) ss ≡ cuts (rs ++ (rows_of ss ++ rows_of ts)) ts
+    → all_cut (rs ++ (strip_rows ss ++ strip_rows ts)) ss ≡ all_cut (rs ++ (strip_rows ss ++ strip_rows ts)) ts
 
 -- so they have the same points in these rows, too
-abbrev pub SamePointsLaw : Type 0
-SamePointsLaw =
+abbrev pub SameOutlinesLaw : Type 0
+SameOutlinesLaw =
     (rs : List ℤ) (ss ts : List Strip) → AreOrderly ss → AreOrderly ts → HaveSameOff rs ss ts
     → HaveSamePoints ss ts
 

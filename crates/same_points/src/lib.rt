@@ -4,7 +4,7 @@
 //! A coordinate is a nanometre, or what its user names.
 #![tactic(auto)]
 
-ghost use Rattle.same_points.specs.Laws.{CutOrderLaw, CutPointsLaw, CutBoundaryLaw, CutDrawnLaw, SameListLaw, SamePointsLaw, SameCoverLaw, SameDrawnLaw};
+ghost use Rattle.same_points.specs.Laws.{CutOrderLaw, CutPointsLaw, CutBoundaryLaw, CutDrawnLaw, SameListLaw, SameOutlinesLaw, SameCoverLaw, SameDrawnLaw};
 
 /// Strips in order that are cut at one more row stay in order, and keep their points and their boundary, cut at that row;
 /// so they keep their area, their loops and their rings.
@@ -19,7 +19,7 @@ pub fn cut_law()
 /// they have the same points in these rows, too; and lists that cover the same octagons have the same points.
 pub fn one_list_law()
     ensures list { SameListLaw }
-    ensures points { SamePointsLaw }
+    ensures points { SameOutlinesLaw }
     ensures cover { SameCoverLaw }
 {}
 

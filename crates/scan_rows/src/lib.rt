@@ -72,6 +72,16 @@ impl Rows {
         Ok(Rows { octs, alloc })
     }
 
+    /// The grid points of octagons of which no two have a common one, as cells have none. It costs a copy of the list. Refuses
+    /// for want of memory alone.
+    pub fn of_apart(alloc: Global, octs: &[Oct]) -> Result<Rows, Memory>
+        requires { AreApart octs.now }
+        ensures { IfOk result (λ rows. (x y : ℤ) → HasPoint rows x y ↔ HasPoint octs.now x y) }
+    {
+        let octs = Vec::from_slice(alloc, octs)?;
+        Ok(Rows { octs, alloc })
+    }
+
     /// Takes the octagon's grid points out of the set. A refusal is want of memory, and leaves the set as it was.
     pub fn minus(&mut self, oct: &Oct) -> Result<(), Memory>
         ensures ok { OnOk result (LosesOct oct.now self.old self.new) }

@@ -6,8 +6,8 @@ use Rattle.desk.specs.Faults.{Rose, OnlyComplaining}
 use Rattle.desk.specs.Whole.{IsComplained}
 use Rattle.run_rules.specs.declared.ended.Ended.{Ended}
 use Rattle.run_rules.specs.Complaint.{complaint_of}
-use Rattle.run_rules.specs.Leaves.{Leaves, Ends}
-use Rattle.top_call.specs.Today.{today, IsQuietToday}
+use Rattle.run_rules.specs.Leaves.{Leaves, Ends, IsQuiet}
+use Rattle.top_call.specs.Today.{today}
 
 ends_with : (answer : Ended) (words : List (List ℕ)) (before now : Counts) (s t : Seen) (new : Option Seen) → Leaves today answer words s t
     → IsComplained (complaint_of answer) t new → ((Rose before.complaining now.complaining → ⊥) → new ≡ Some (with_complained (complaint_of answer) t))
@@ -29,8 +29,9 @@ ends_of answer words before mid now s t new line l e m c w =
     (λ q. subst (λ b. new ≡ Some (with_complained b t)) e (w (λ h. q (subst (λ v. Rose v now.complaining) m h))))
 
 -- a quiet run was quiet before it complained
-pub quiet_before : (before mid now : Counts) → OnlyComplaining mid now → IsQuietToday before now → IsQuietToday before mid
+pub quiet_before : (before mid now : Counts) → OnlyComplaining mid now → IsQuiet before now → IsQuiet before mid
 quiet_before before mid now o q = record {
   reading = λ h. q.reading (subst (λ v. Rose before.reading v) (sym o.0) h);
   writing = λ h. q.writing (subst (λ v. Rose before.writing v) (sym o.1) h);
+  saying = λ h. q.saying (subst (λ v. Rose before.saying v) (sym o.2) h);
 }

@@ -1,6 +1,8 @@
-pub mod Filling
 pub mod Owes
-pub mod Counting
 pub mod OneDue
 pub mod EndsOf
 pub mod Settled
+pub mod Boards
+pub mod Cuts
+pub mod Stops
+pub mod Ends

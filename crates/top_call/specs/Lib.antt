@@ -1,5 +1,7 @@
-pub mod Output
 pub mod Today
+pub mod Settled
 pub mod Rows
 pub mod Refusals
+pub mod Passed
 pub mod Steps
+pub mod Laws

@@ -1,5 +1,5 @@
--- Why a text isn't filled, and what the parts of a run answer.
-use Rattle.std.specs.Prelude.{◌≡◌, ℕ, List}
+-- Why a command isn't carried out: what the parts of a run answer, before anything is written.
+use Rattle.std.specs.Prelude.{◌≡◌, ℕ, ◌<◌, List, length}
 use Rattle.desk.specs.Seen.{Seen}
 use Rattle.desk.specs.declared.whole_files.ReadStop.{ReadStop}
 use Rattle.desk.specs.declared.whole_files.ReadStop.TheVariants as stops
@@ -11,31 +11,17 @@ use Rattle.sexpr_text.specs.declared.error.TextError.TheVariants as text_errors
 use Rattle.board_language.specs.Reading.{IsOffence}
 use Rattle.board_model.specs.declared.error.BoardError.{BoardError}
 use Rattle.board_model.specs.declared.error.BoardError.TheVariants as board_errors
-use Rattle.run_rules.specs.declared.words.Command.TheVariants.{Fill}
+use Rattle.run_rules.specs.declared.words.Command.{Command}
 use Rattle.run_rules.specs.declared.words.WordsError.{WordsError}
 use Rattle.run_rules.specs.declared.words.WordsError.TheVariants as words_errors
 use Rattle.run_rules.specs.declared.ended.Ended.{Ended}
 use Rattle.run_rules.specs.declared.ended.Ended.TheVariants as ended
 use Rattle.run_rules.specs.declared.ended.Role.TheVariants.{In}
-use Rattle.run_rules.specs.Words.{GivenWord}
-use Rattle.run_rules.specs.Words.Wanted.{Run}
-use Rattle.run_rules.specs.Due.{IsDue}
 use Rattle.run_rules.specs.Due.Due.{Refuse}
+use Rattle.run_rules.specs.Leaves.{IsReading}
 use Rattle.top_call.specs.declared.filled.Refusal.{Refusal}
 use Rattle.top_call.specs.declared.filled.Refusal.TheVariants.{Memory, BadText, Refused}
-use Rattle.top_call.specs.declared.words.Filling.{Filling}
-use Rattle.top_call.specs.Today.{asked_today, today}
-
--- ---- words
-
--- the words want this filling, by some number of workers
-abbrev pub IsFilling : Filling → List GivenWord → Type 0
-IsFilling f words = (threads : ℕ) × (asked_today words ≡ Run (Fill f.input f.output threads f.rules))
-
--- whatever the files hold, the words owe this fault; want of memory aside
-abbrev pub IsWordsError : WordsError → List GivenWord → Type 0
-IsWordsError words_errors.Memory words = Unit {0}
-IsWordsError (words_errors.Bad fault) words = (s : Seen) → IsDue today words s (Refuse (ended.Usage fault))
+use Rattle.top_call.specs.Today.{OwesToday}
 
 -- ---- texts
 
@@ -73,3 +59,19 @@ abbrev pub answer_of : Refusal → Ended
 answer_of Memory = ended.Memory
 answer_of (BadText fault) = ended.BadText fault
 answer_of (Refused offence) = ended.Refused offence
+
+-- why a file of these bytes isn't read: a call of the desk failed, they are too many, or memory is wanted
+abbrev pub IsUnread : List ℕ → Ended → Type 0
+IsUnread text ended.Memory = Unit {0}
+IsUnread text (ended.Unreadable In) = Unit {0}
+IsUnread text (ended.TooLong In taken) = (67108864 < length text) × (taken ≡ 67108865)
+IsUnread text other = ⊥
+
+-- Nothing of the command is written or said: a file of it can't be read, it is refused by what is due, or memory is wanted.
+abbrev pub IsStopped : Command → Seen → Ended → Type 0
+IsStopped command s ended.Memory = Unit {0}
+IsStopped command s (ended.Unreadable role) = IsReading command role s
+IsStopped command s (ended.Done lines) = ⊥
+IsStopped command s (ended.Unwritten given) = ⊥
+IsStopped command s (ended.Unsaid given) = ⊥
+IsStopped command s refusal = OwesToday command s (Refuse refusal)

@@ -8,10 +8,14 @@ ghost use Rattle.top_call.specs.Rows.{WordsRows};
 ghost use Rattle.top_call.specs.Today.{today};
 
 mod filled;
-mod run;
+mod filler;
+mod made;
+mod passing;
+mod prepared;
+mod runs;
 mod words;
 
-pub use run::{reserved_desks_are_quiet, run_single};
+pub use runs::{reserved_desks_are_quiet, run_single, same_end_law};
 
 /// At most one thing is due of a run.
 pub fn due_law()

@@ -10,7 +10,7 @@ use Rattle.scan_rows.specs.Sets.{LosesAll}
 use Rattle.centres.specs.Centres.{grown_wall, grown_need, IsBarredAt}
 use Rattle.knockouts.specs.Obstacles.{need_of}
 use Rattle.knockouts.specs.declared.obstacles.Need.{Need as Obstacle}
-use Rattle.zone_fill.specs.Inner.Steps.{AreCuts}
+use Rattle.zone_fill.specs.Inner.Steps.{AreCutsFor}
 
 any_end : {A : Type 0} (P : A → Type 0) (xs : List A) (a : A) → Any P (xs ++ a ∷ []) ↔ (Any P xs ⊎ P a)
 any_end P xs a = (
@@ -18,11 +18,11 @@ any_end P xs a = (
   λ h. elim h [ inl k ↦ any_left P xs (a ∷ []) k | inr p ↦ any_right P xs (a ∷ []) (any_head P a [] p) ],
 )
 
-pub no_cuts : {A : Type 0} (S : A → ℤ → ℤ → Type 0) → AreCuts S [] []
+pub no_cuts : {A : Type 0} (S : A → ℤ → ℤ → Type 0) → AreCutsFor S [] []
 no_cuts S = record { same = λ x y. (λ h. absurd h, λ h. absurd (any_none (λ a. S a x y) h)) }
 
-cut_end : {A : Type 0} (S : A → ℤ → ℤ → Type 0) (xs : List A) (a : A) (old new : List Bounds) → AreCuts S xs old
-    → ((x y : ℤ) → HasPoint new x y ↔ (HasPoint old x y ⊎ S a x y)) → AreCuts S (xs ++ a ∷ []) new
+cut_end : {A : Type 0} (S : A → ℤ → ℤ → Type 0) (xs : List A) (a : A) (old new : List Bounds) → AreCutsFor S xs old
+    → ((x y : ℤ) → HasPoint new x y ↔ (HasPoint old x y ⊎ S a x y)) → AreCutsFor S (xs ++ a ∷ []) new
 cut_end S xs a old new c n = record {
   same = λ x y. (
     λ h. (any_end (λ t. S t x y) xs a).1 (elim ((n x y).0 h) [ inl k ↦ inl ((c.same x y).0 k) | inr s ↦ inr s ]),
@@ -32,9 +32,9 @@ cut_end S xs a old new c n = record {
 
 -- one thing further
 pub cut_more : {A : Type 0} (S : A → ℤ → ℤ → Type 0) (xs : List A) (a : A) (i : ℕ) (old new : List Bounds) → i < length xs → a ≡ get_or xs i a
-    → AreCuts S (take i xs) old → ((x y : ℤ) → HasPoint new x y ↔ (HasPoint old x y ⊎ S a x y)) → AreCuts S (take (i + 1) xs) new
+    → AreCutsFor S (take i xs) old → ((x y : ℤ) → HasPoint new x y ↔ (HasPoint old x y ⊎ S a x y)) → AreCutsFor S (take (i + 1) xs) new
 cut_more S xs a i old new l e c n =
-    subst (λ t. AreCuts S t new) (sym (take_more xs i a l)) (subst (λ b. AreCuts S (take i xs ++ b ∷ []) new) e (cut_end S (take i xs) a old new c n))
+    subst (λ t. AreCutsFor S t new) (sym (take_more xs i a l)) (subst (λ b. AreCutsFor S (take i xs ++ b ∷ []) new) e (cut_end S (take i xs) a old new c n))
 
 -- what is strictly inside one more octagon, where it has grid points
 pub one_more : (cuts : List Bounds) (inside : Bounds) (S : ℤ → ℤ → Type 0) → ((x y : ℤ) → Within inside x y ↔ S x y)
@@ -64,7 +64,7 @@ any_told f P (x ∷ xs) =
 
 -- the cuts by walls and those by needs
 pub barred_cuts : (r : ℕ) (walls : List Bounds) (needs : List Obstacle) (os more all : List Bounds) → all ≡ os ++ more
-    → AreCuts (λ w x y. StrictlyWithin (grown_wall r w) x y) walls os → AreCuts (λ n x y. StrictlyWithin (grown_need r (need_of n)) x y) needs more
+    → AreCutsFor (λ w x y. StrictlyWithin (grown_wall r w) x y) walls os → AreCutsFor (λ n x y. StrictlyWithin (grown_need r (need_of n)) x y) needs more
     → (x y : ℤ) → HasPoint all x y ↔ IsBarredAt r walls (map need_of needs) x y
 unfolding IsBarredAt
 barred_cuts r walls needs os more all e f g x y =
@@ -82,5 +82,5 @@ left_over old cuts new A B l f g x y = (
 )
 
 -- all things are done
-pub cuts_all : {A : Type 0} (S : A → ℤ → ℤ → Type 0) (xs : List A) (i : ℕ) (cuts : List Bounds) → length xs ≤ i → AreCuts S (take i xs) cuts → AreCuts S xs cuts
-cuts_all S xs i cuts l c = subst (λ t. AreCuts S t cuts) (take_all i xs l) c
+pub cuts_all : {A : Type 0} (S : A → ℤ → ℤ → Type 0) (xs : List A) (i : ℕ) (cuts : List Bounds) → length xs ≤ i → AreCutsFor S (take i xs) cuts → AreCutsFor S xs cuts
+cuts_all S xs i cuts l c = subst (λ t. AreCutsFor S t cuts) (take_all i xs l) c

@@ -11,7 +11,7 @@ use Rattle.fill_rules.proofs.Members.{some_one_of}
 use Rattle.components.specs.Kept.{IsMet}
 use Rattle.centres.specs.Walls.{EntersNone}
 use Rattle.centres.specs.Needs.{KeepsAll, LiesIn}
-use Rattle.centres.specs.Laws.{IsWide}
+use Rattle.centres.specs.Laws.{IsSpokeSized}
 use Rattle.centres.proofs.Home.{lies_in_law}
 use Rattle.centres.proofs.Listed.{one_any}
 use Rattle.centres.proofs.Spokes.{entered_law}
@@ -25,7 +25,7 @@ one_all P [] f = All-nil P
 one_all P (x ∷ xs) f = All-cons P x xs (f x (inl refl)) (one_all P xs (λ y i. f y (inr i)))
 
 -- ---- walls
-pub entering : (walls : List Bounds) (o inner : Bounds) → IsWide o → IsTight inner → ((x y : ℤ) → Within inner x y ↔ StrictlyWithin o x y) → All IsTight walls
+pub entering : (walls : List Bounds) (o inner : Bounds) → IsSpokeSized o → IsTight inner → ((x y : ℤ) → Within inner x y ↔ StrictlyWithin o x y) → All IsTight walls
     → All (λ w. AreNear 1 inner w → ⊥) walls ↔ EntersNone walls o
 unfolding EntersNone
 entering walls o inner wide tight same ts = (
@@ -33,7 +33,7 @@ entering walls o inner wide tight same ts = (
   λ n. one_all (λ w. AreNear 1 inner w → ⊥) walls (λ w i e. n w i ((entered_law.near o inner w wide tight same (all_one_of IsTight walls w ts i)).1 e)),
 )
 
-pub some_inside : (o : Bounds) → IsWide o → ((x y : ℤ) → StrictlyWithin o x y → ⊥) → ⊥
+pub some_inside : (o : Bounds) → IsSpokeSized o → ((x y : ℤ) → StrictlyWithin o x y → ⊥) → ⊥
 some_inside o w n = let s = entered_law.some o w in n s.0 s.1 s.2
 
 -- ---- needs

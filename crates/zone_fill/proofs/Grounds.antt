@@ -35,7 +35,7 @@ use Rattle.components.specs.Kept.{flagged, IsMet}
 use Rattle.centres.specs.Walls.{AreWallsOf}
 use Rattle.centres.specs.Needs.{LiesIn, frame_at}
 use Rattle.centres.specs.Centres.{shrunk, IsBarredAt}
-use Rattle.centres.specs.Laws.{IsWide}
+use Rattle.centres.specs.Laws.{IsSpokeSized}
 use Rattle.centres.proofs.Frames.{frame_held}
 use Rattle.centres.proofs.Spokes.{spoke_law}
 use Rattle.knockouts.proofs.Near.{member}
@@ -237,7 +237,7 @@ made b t r edges anchors z cells blots live kept grown counted flags f s g ee ea
 
 -- ---- what the calls ask
 
-pub spokes_wide : (b : Board) (t : Task) (above : List Made) (spokes : List Bounds) → IsSoundBoard b → AreFillsAboveTask b t above → spokes ≡ task_spokes b t → All IsWide spokes
+pub spokes_wide : (b : Board) (t : Task) (above : List Made) (spokes : List Bounds) → IsSoundBoard b → AreFillsAboveTask b t above → spokes ≡ task_spokes b t → All IsSpokeSized spokes
 unfolding zone_at
 spokes_wide b t above spokes s up e k d l =
     let one : IsOneOf (get_or spokes k d) (task_spokes b t) = subst (λ (os : List Bounds). IsOneOf (get_or spokes k d) os) e (member spokes k d l) in

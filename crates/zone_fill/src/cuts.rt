@@ -6,7 +6,7 @@ ghost use Rattle.grid_sets.specs.Points.{HasPoint};
 ghost use Rattle.octagon.specs.Room.{IsAround};
 ghost use Rattle.knockouts.specs.Obstacles.{need_of, IsNeedInRange};
 ghost use Rattle.centres.specs.Centres.{grown_wall, grown_need, IsBarredAt};
-ghost use Rattle.zone_fill.specs.Inner.Steps.{AreCuts};
+ghost use Rattle.zone_fill.specs.Inner.Steps.{AreCutsFor};
 
 use grid_num::Memory;
 use kept_copper::grown;
@@ -35,7 +35,7 @@ pub fn cuts(alloc: Global, walls: &[Oct], needs: &[Need], radius: u32) -> Result
 fn by_walls(alloc: Global, walls: &[Oct], radius: u32) -> Result<Vec<Oct>, Memory>
     requires walls { All (IsAround (2 ^ 31)) walls.now }
     requires radius { radius ≤ 2 ^ 31 }
-    ensures { IfOk result (λ cuts. AreCuts (λ w x y. StrictlyWithin (grown_wall radius w) x y) walls.now cuts.items) }
+    ensures { IfOk result (λ cuts. AreCutsFor (λ w x y. StrictlyWithin (grown_wall radius w) x y) walls.now cuts.items) }
 {
     let mut cuts = Vec::new(alloc);
     'each: for wall in walls {
@@ -48,7 +48,7 @@ fn by_needs(alloc: Global, needs: &[Need], radius: u32) -> Result<Vec<Oct>, Memo
     requires needs { All IsNeedInRange (map need_of needs.now) }
     requires radius { radius ≤ 2 ^ 31 }
     ensures { IfOk result
-        (λ cuts. AreCuts (λ n x y. StrictlyWithin (grown_need radius (need_of n)) x y) needs.now cuts.items) }
+        (λ cuts. AreCutsFor (λ n x y. StrictlyWithin (grown_need radius (need_of n)) x y) needs.now cuts.items) }
 {
     let mut cuts = Vec::new(alloc);
     'each: for need in needs {

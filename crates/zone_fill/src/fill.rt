@@ -2,6 +2,7 @@
 ghost use Rattle.std.specs.Prelude.{◌≡◌, ◌+◌, ◌<◌, length, map, IfOk};
 ghost use Rattle.std.specs.Arc.{arc_value};
 ghost use Rattle.plane.specs.Plane.{IsOct};
+ghost use Rattle.grid_sets.specs.Points.{AreApart};
 ghost use Rattle.hulls.specs.Cells.{around};
 ghost use Rattle.outline_slab.specs.Cuts.{IsWithinHalfMetre};
 ghost use Rattle.fills.specs.Fills.{task_of};
@@ -85,7 +86,8 @@ fn ground_of(
     above: &[Arc<Fill>],
 ) -> Result<Ground, Memory>
     requires { AreFillsAboveTask board.now.board (task_of task) (map arc_value above.now) }
-    ensures { IfOk result (λ g. IsGround board.now.board (task_of task) g.radius g.cells.items g.blots.items g.live.items) }
+    ensures ground { IfOk result (λ g. IsGround board.now.board (task_of task) g.radius g.cells.items g.blots.items g.live.items) }
+    ensures apart { IfOk result (λ g. AreApart g.cells.items) }
 {
     board.sound();
     knockouts::laws::gaps_law();

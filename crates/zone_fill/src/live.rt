@@ -7,7 +7,7 @@ ghost use Rattle.fills.specs.Fills.{AreThose};
 ghost use Rattle.components.specs.Kept.{IsMet};
 ghost use Rattle.centres.specs.Walls.{EntersNone};
 ghost use Rattle.centres.specs.Needs.{KeepsAll, LiesIn};
-ghost use Rattle.centres.specs.Laws.{IsWide};
+ghost use Rattle.centres.specs.Laws.{IsSpokeSized};
 ghost use Rattle.zone_fill.specs.Inner.Live.{IsFree};
 
 use grid_num::Memory;
@@ -29,7 +29,7 @@ pub fn live_spokes(
     bars: &[Need],
     blots: &[Oct],
 ) -> Result<Vec<Oct>, Memory>
-    requires wide { All IsWide spokes.now }
+    requires wide { All IsSpokeSized spokes.now }
     requires walls { All IsTight walls.now }
     requires bars { All IsNeedInRange (map need_of bars.now) }
     ensures { IfOk result (λ v. AreThose (λ o. IsFree frame.now walls.now (map need_of bars.now) o × IsMet blots.now o)
@@ -70,7 +70,7 @@ fn push_if(octs: &mut Vec<Oct>, oct: &Oct, wanted: bool) -> Result<(), Memory>
 
 // Whether the rectangle lies in the frame, enters no wall, keeps all needs and is met.
 fn is_live(oct: &Oct, frame: &Oct, walls: &[Oct], bars: &[Need], blots: &[Oct]) -> bool
-    requires wide { IsWide oct.now }
+    requires wide { IsSpokeSized oct.now }
     requires walls { All IsTight walls.now }
     requires bars { All IsNeedInRange (map need_of bars.now) }
     ensures { IsTrue result ↔ (IsFree frame.now walls.now (map need_of bars.now) oct.now × IsMet blots.now oct.now) }
@@ -82,7 +82,7 @@ fn is_live(oct: &Oct, frame: &Oct, walls: &[Oct], bars: &[Need], blots: &[Oct]) 
 
 // Whether the rectangle lies in the frame, enters no wall and keeps all needs.
 fn is_free(oct: &Oct, frame: &Oct, walls: &[Oct], bars: &[Need]) -> bool
-    requires wide { IsWide oct.now }
+    requires wide { IsSpokeSized oct.now }
     requires walls { All IsTight walls.now }
     requires bars { All IsNeedInRange (map need_of bars.now) }
     ensures { IsTrue result ↔ IsFree frame.now walls.now (map need_of bars.now) oct.now }
@@ -120,7 +120,7 @@ fn all_four(x: bool, y: bool, s: bool, d: bool) -> bool
 
 // Whether no wall has a point strictly inside the rectangle.
 fn enters_none(oct: &Oct, walls: &[Oct]) -> bool
-    requires wide { IsWide oct.now }
+    requires wide { IsSpokeSized oct.now }
     requires walls { All IsTight walls.now }
     ensures { IsTrue result ↔ EntersNone walls.now oct.now }
 {

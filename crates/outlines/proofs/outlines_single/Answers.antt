@@ -1,4 +1,4 @@
-use Rattle.std.proofs.Common.{◌≡◌, map}
+use Rattle.std.proofs.Common.{map}
 use Rattle.std.specs.Arc.{arc_value}
 use Rattle.rings.specs.Outlines.{AreOutlines}
 use Rattle.fill_rules.specs.Made.{Made, no_fill}

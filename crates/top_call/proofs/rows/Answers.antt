@@ -8,12 +8,13 @@ pub returns : goal.returns
 unfolding length_fault length_of with_word with_words has_setting_twice value_of wanted asked_today
 returns c = record {
   fill = refl;
-  dash = refl;
-  same_name = refl;
   option = refl;
-  bad_option = refl;
   names = refl;
-  refill = refl;
   report = refl;
+  same_name = refl;
+  threads = refl;
+  nothing = refl;
   generate = refl;
+  size = refl;
+  refill = refl;
 }

@@ -13,5 +13,5 @@ AddsArea layer a walls more =
     → AreWallsOf outline layer areas frame walls → AreWallsOf outline layer (areas ++ a ∷ []) frame more
 
 -- the octagons have exactly the grid points that S gives one of the things
-pub record AreCuts {A : Type 0} (S : A → ℤ → ℤ → Type 0) (things : List A) (cuts : List Bounds) : Type 0 where
+pub record AreCutsFor {A : Type 0} (S : A → ℤ → ℤ → Type 0) (things : List A) (cuts : List Bounds) : Type 0 where
   pub same : (x y : ℤ) → HasPoint cuts x y ↔ Any (λ a. S a x y) things

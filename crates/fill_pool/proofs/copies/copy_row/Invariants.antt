@@ -1,7 +1,7 @@
 use Rattle.std.proofs.Common.{◌≡◌, ◌++◌, map}
 use Rattle.std.specs.Prelude.{drop}
 use Rattle.std.specs.Arc.{arc_value}
-use Rattle.fill_pool.specs.Slots.{filled, made_at}
+use Rattle.fill_pool.specs.Inner.Slots.{filled, made_at}
 use Rattle.fill_pool.proofs.copies.copy_row.Given as goal
 
 abbrev pub invariant-each : goal.invariant-each

@@ -1,6 +1,6 @@
 use Rattle.std.proofs.Common.{◌≡◌, refl, ◌++◌, ◌∷◌, [], arith}
 use Rattle.std.specs.Arc.{arc_value}
-use Rattle.fill_pool.specs.Slots.{filled}
+use Rattle.fill_pool.specs.Inner.Slots.{filled}
 use Rattle.fill_pool.proofs.Machines.{pushed}
 use Rattle.fill_pool.proofs.Pools.{same_step, full_step, room_step, room_left}
 use Rattle.fill_pool.proofs.copies.into_all.Goals as goal

@@ -2,7 +2,7 @@ use Rattle.std.proofs.Common.{◌≡◌, ◌++◌, ◌+◌, ◌≤◌, map, leng
 use Rattle.std.specs.Prelude.{vec_capacity}
 use Rattle.std.specs.List.{All}
 use Rattle.std.specs.Arc.{arc_value}
-use Rattle.fill_pool.specs.Slots.{filled, IsFull}
+use Rattle.fill_pool.specs.Inner.Slots.{filled, IsFull}
 use Rattle.fill_pool.proofs.copies.into_all.Given as goal
 
 abbrev pub invariant-each : goal.invariant-each

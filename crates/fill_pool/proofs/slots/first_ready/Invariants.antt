@@ -1,6 +1,6 @@
 use Rattle.std.proofs.Common.{ℕ, ◌<◌}
 use Rattle.std.specs.Prelude.{map}
-use Rattle.fill_pool.specs.Slots.{IsReadyRow}
+use Rattle.fill_pool.specs.Inner.Slots.{IsReadyRow}
 use Rattle.fill_pool.proofs.slots.first_ready.Given as goal
 
 abbrev pub invariant-each : goal.invariant-each

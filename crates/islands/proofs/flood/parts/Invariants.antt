@@ -1,9 +1,5 @@
-use Rattle.std.proofs.Common.{length}
-use Rattle.islands.proofs.Flooding.{IsPartly}
+use Rattle.islands.specs.Inner.Flood.{ArePartly}
 use Rattle.islands.proofs.flood.parts.Given as goal
 
 abbrev pub invariant-each : goal.invariant-each
-invariant-each l = IsPartly l.octs l.labels.items l.left.items
-
-abbrev pub decreases-each : goal.decreases-each
-decreases-each l = length l.left.items
+invariant-each l = ArePartly l.octs l.first l.labels.items

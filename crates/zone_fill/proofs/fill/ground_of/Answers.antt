@@ -36,8 +36,8 @@ live_spokes-requires-clause-wide c =
 pub live_spokes-requires-clause-bars : goal.live_spokes-requires-clause-bars
 live_spokes-requires-clause-bars c = bars_range IsNeedInRange need_of _ c.deref.result.now (rw c.deref.ensures.value c.in_ok-needs.ensures.range)
 
-pub returns : goal.returns
-returns c =
+pub returns-clause-ground : goal.returns-clause-ground
+returns-clause-ground c =
     let b = c.args.board.now.board in
     let t = task_of c.args.task in
     let above = map arc_value c.args.above.now in

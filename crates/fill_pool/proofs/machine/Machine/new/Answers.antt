@@ -1,7 +1,7 @@
 use Rattle.std.proofs.Common.{◌≡◌, sym, ◌∙◌, subst, ◌≤◌, ◌<◌, ◌+◌, List, map, arith, length}
 use Rattle.std.specs.Prelude.{false, vec_capacity, ◌^◌}
 use Rattle.pool_rules.specs.declared.PoolEvent.{PoolEvent}
-use Rattle.fill_pool.specs.Fields.{IsMachine}
+use Rattle.fill_pool.specs.Inner.Fields.{IsMachine}
 use Rattle.fill_pool.proofs.Machines.{new_machine, length_map}
 use Rattle.fill_pool.proofs.machine.Machine.new.Goals as goal
 

@@ -1,6 +1,6 @@
 use Rattle.std.proofs.Common.{sym, ◌∙◌, subst, List, arith, inl, inr}
 use Rattle.pool_rules.specs.declared.PoolEvent.{PoolEvent}
-use Rattle.fill_pool.specs.Runs.{IsHalted, NoneReady, IsNext, IsHeld}
+use Rattle.fill_pool.specs.Runs.{IsHalted, NoneReady, IsNext, IsHeldBy}
 use Rattle.fill_pool.proofs.Boards.{waiting_in}
 use Rattle.fill_pool.proofs.Machines.{sized, few_slots, next_row, none_row, on_halt, after_take, taken_holds, length_map}
 use Rattle.fill_pool.proofs.machine.Machine.take.Goals as goal
@@ -43,7 +43,7 @@ returns-in-Some-clause-held g c =
     let n = next_row g.N.Named.board c.self.inside.slots.items _ c.self.inside.history.items c.self.inside.halted _ c.self.invariant c.if-self.false c.in-Some.number
     (rw (c.as_slice-2.ensures.value, c.as_slice.ensures.value) at c.in-Some.ensures.ready)
     (rw (c.as_slice-2.ensures.value, c.as_slice.ensures.value) at c.in-Some.ensures.first) in
-    subst (λ (es : List PoolEvent). IsHeld g.N.Named.board es c.args.worker c.in-Some.number)
+    subst (λ (es : List PoolEvent). IsHeldBy g.N.Named.board es c.args.worker c.in-Some.number)
     (sym ((after_take g.N.Named.board c.self.inside.slots.items _ c.self.inside.history.items c.self.inside.halted _ c.self.invariant c.in-Some.number c.args.worker _
     c.push-pushed.new.self.items _ n
     (λ l. c.push-pushed.ensures.succeeds (omega (arith, l, c.self.inside.history.ok))) c.push-pushed.ensures.items c.push-pushed.ensures.capacity).0))

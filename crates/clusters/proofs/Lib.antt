@@ -1,0 +1,11 @@
+pub mod Forests
+pub mod Layers
+pub mod Links
+pub mod Sweeps
+pub mod Ranks
+pub mod Listing
+pub mod Rooms
+pub mod Corners
+pub mod Joined
+pub mod NodeParts
+pub mod Ends

@@ -1,0 +1,27 @@
+use Rattle.std.proofs.Common.{◌≡◌, sym, ◌∙◌, subst, ap, map, arith, ◌<◌}
+use Rattle.std.proofs.lemmas.List.{length-map}
+use Rattle.std.specs.Arc.{arc_value}
+use Rattle.fill_rules.specs.Tasks.{Task}
+use Rattle.fill_rules.specs.Made.{no_fill}
+use Rattle.clusters.proofs.Ranks.{fill_task, fill_is_task}
+use Rattle.clusters.proofs.NodeParts.{part_layer, part_layer_past}
+use Rattle.clusters.proofs.reading.part_layers.Goals as goal
+
+pub returns-then-fill-fills : goal.returns-then-fill-fills
+returns-then-fill-fills c =
+    let m = length-map c.args.fills.now arc_value in
+    part_layer_past c.args.board.now.board c.args.fill c.args.first (omega (arith, m, c.requires.count, c.if-fill-fills.true))
+
+pub only-requires : goal.only-requires
+only-requires c =
+    let m = length-map c.args.fills.now arc_value in
+    let t = fill_is_task c.args.board.now.board (map arc_value c.args.fills.now) c.requires c.args.fill c.fill_at.result.now (omega (arith, m, c.if-fill-fills.false)) (c.fill_at.ensures no_fill) in
+    let l = subst (λ (u : Task). u.layer < 32) (sym c.task_of.ensures) (let a = t.layer in let few = c.sound.ensures.layers in omega (arith, a, few)) in
+    l
+
+pub returns : goal.returns
+returns c =
+    let m = length-map c.args.fills.now arc_value in
+    c.only.ensures
+    ∙ part_layer c.args.board.now.board (record { zone = c.task_of.result.zone; layer = c.task_of.result.layer }) c.args.fill c.args.first
+    (c.task_of.ensures ∙ fill_task c.args.board.now.board (map arc_value c.args.fills.now) c.requires c.args.fill c.fill_at.result.now (omega (arith, m, c.if-fill-fills.false)) (c.fill_at.ensures no_fill))

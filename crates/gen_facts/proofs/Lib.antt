@@ -1,0 +1,10 @@
+pub mod Numbers
+pub mod Lines
+pub mod CopperKind
+pub mod ZoneKind
+pub mod Entries
+pub mod Boards
+pub mod Heads
+pub mod Square
+pub mod Walk
+pub mod Sound

@@ -1,0 +1,4 @@
+pub mod Copper
+pub mod Places
+pub mod Nets
+pub mod Headline

@@ -1,0 +1,4 @@
+pub mod Refill
+pub mod Writing
+pub mod Names
+pub mod Refilled

@@ -1,0 +1,9 @@
+pub mod Each
+pub mod Fields
+pub mod Things
+pub mod Pads
+pub mod Values
+pub mod Offending
+pub mod Roots
+pub mod Boards
+pub mod Fills
