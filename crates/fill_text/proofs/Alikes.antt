@@ -1,7 +1,7 @@
 -- From each place to the next with the same label, and so the members of clusters.
 use Rattle.std.proofs.Common.{◌≡◌, refl, sym, ◌∙◌, ap, subst, ℕ, zero, suc, ◌+◌, ◌-◌, ◌<◌, ◌≤◌, ◌⊎◌, arith, inl, inr, Bool, true, false, cond, List, [], ◌∷◌, ◌++◌, length, get_or, set, drop, replicate, map, length-set, length-drop, append-nil, append_assoc, add-one}
 use Rattle.std.specs.Prelude.{◌==◌, ◌&&◌, filter}
-use Rattle.std.proofs.lemmas.Bool.{cases_eq, cases_lt, true≢false}
+use Rattle.std.proofs.lemmas.Bool.{cases_eq, true≢false}
 use Rattle.std.proofs.lemmas.Bool.Decides.{Decides-eqb}
 use Rattle.std.proofs.lemmas.List.{drop_more, drop_all, drop-drop, get_or-drop, get_or-set_same, get_or-set_other, get_or-replicate, length-replicate}
 use Rattle.fill_rules.specs.Nodes.{passing_places, firsts_from}

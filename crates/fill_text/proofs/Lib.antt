@@ -4,3 +4,8 @@ pub mod Alikes
 pub mod Once
 pub mod NetsSaid
 pub mod TasksSaid
+pub mod Passing
+pub mod ZoneLists
+pub mod ReadRings
+pub mod OneReading
+pub mod FillOrder

@@ -1,12 +1,12 @@
 -- The nets of a report, one after another.
-use Rattle.std.proofs.Common.{◌≡◌, refl, sym, ◌∙◌, ap, subst, ℕ, zero, suc, ◌+◌, ◌<◌, ◌≤◌, arith, inl, inr, List, [], ◌∷◌, ◌++◌, length, map, get_or, take}
-use Rattle.std.specs.Prelude.{◌↔◌, ◌==◌, slice_get, filter, Bool, ℤ, pos, ◌+ℤ◌, ◌-ℤ◌, ◌*ℤ◌}
+use Rattle.std.proofs.Common.{◌≡◌, refl, sym, ◌∙◌, ap, subst, ℕ, zero, suc, ◌+◌, ◌<◌, ◌≤◌, arith, List, [], ◌∷◌, ◌++◌, length, map, get_or, take}
+use Rattle.std.specs.Prelude.{◌==◌, slice_get, filter, ℤ, pos, ◌+ℤ◌, ◌-ℤ◌, ◌*ℤ◌}
 use Rattle.grid_num.specs.declared.Point.{Point}
 use Rattle.islands.proofs.Members.{one_at}
 use Rattle.board_text.specs.Items.{size_of}
 use Rattle.output_rules.specs.declared.report.RatsnestLine.{RatsnestLine}
 use Rattle.ratsnest.specs.declared.Anchor.{Anchor}
-use Rattle.std.proofs.lemmas.List.{take_more, take_all, length-map, map_push, map_more, get_or-map}
+use Rattle.std.proofs.lemmas.List.{take_more, take_all, map_push, map_more}
 use Rattle.std.proofs.lemmas.List.Elements.{filter_agree}
 use Rattle.classes.specs.Classes.{IsOneOf}
 use Rattle.classes.proofs.Reaching.{reaches_self}
@@ -17,7 +17,7 @@ use Rattle.board_language.proofs.Members.{one_of_map, map_one_of}
 use Rattle.fill_rules.specs.Made.{Made}
 use Rattle.fill_rules.specs.Nodes.{Node, nodes_of, firsts_from}
 use Rattle.fill_rules.specs.Clusters.{option_or_zero, node_net, net_anchors, AreClusters, AreJoinedAt}
-use Rattle.output_rules.specs.Laws.{NetsLaw, IsNetOfNode}
+use Rattle.output_rules.specs.Laws.{NetsLaw}
 use Rattle.output_rules.specs.Report.{NetLines, unjoined}
 use Rattle.output_rules.specs.Reported.{nets_of, net_lines, net_at, labels_of, members_of, line_of_pair, AreNetLines}
 use Rattle.fill_text.specs.Inner.Alike.{AreLabels}

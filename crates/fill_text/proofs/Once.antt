@@ -1,13 +1,12 @@
 -- Numbers upward and each once: one list alone is that.
-use Rattle.std.proofs.Common.{◌≡◌, refl, sym, ◌∙◌, ap, subst, ℕ, zero, suc, ◌+◌, ◌<◌, ◌≤◌, arith, inl, inr, List, [], ◌∷◌, length, get_or, add-one}
-use Rattle.std.specs.Prelude.{◌↔◌, slice_index}
-use Rattle.std.specs.List.{Contains, dedup}
-use Rattle.std.specs.List.Sorted.{IsStrictlyIncreasing, IsPermutation}
+use Rattle.std.proofs.Common.{◌≡◌, refl, sym, ◌∙◌, ap, subst, ℕ, zero, suc, ◌<◌, arith, inl, inr, List, [], ◌∷◌, length, get_or, add-one}
+use Rattle.std.specs.Prelude.{◌↔◌}
+use Rattle.std.specs.List.{Contains}
+use Rattle.std.specs.List.Sorted.{IsStrictlyIncreasing}
 use Rattle.classes.specs.Classes.{IsOneOf}
 use Rattle.islands.proofs.Members.{one_at, one_place}
 use Rattle.fill_rules.specs.Ranking.{IsSortedBy}
 use Rattle.output_rules.specs.Laws.{IsBelow}
-use Rattle.fill_text.specs.Inner.Nets.{AreEachOnce}
 
 pub same_once : (xs ys : List ℕ) → IsSortedBy IsBelow xs → IsSortedBy IsBelow ys → ((n : ℕ) → IsOneOf n xs ↔ IsOneOf n ys) → xs ≡ ys
 unfolding IsSortedBy IsOneOf

@@ -1,13 +1,12 @@
 -- What is said of tasks and nodes, as it is read.
-use Rattle.std.proofs.Common.{◌≡◌, refl, sym, ◌∙◌, ap, subst, ℕ, suc, ◌+◌, ◌<◌, ◌≤◌, arith, List, [], ◌∷◌, ◌++◌, length, map, get_or, take, add-one}
-use Rattle.std.proofs.lemmas.List.{take_all, map_push, take_more, length-map, get_or-map}
+use Rattle.std.proofs.Common.{◌≡◌, sym, ◌∙◌, ap, ℕ, suc, ◌+◌, ◌<◌, ◌≤◌, List, [], ◌∷◌, ◌++◌, length, map, get_or, take, add-one}
+use Rattle.std.proofs.lemmas.List.{take_all, map_push, take_more, get_or-map}
 use Rattle.board_language.specs.Board.{Board}
 use Rattle.rings.specs.Rings.{Traced, not_traced}
 use Rattle.fill_rules.specs.Tasks.{Task, ranked, task_at}
 use Rattle.fill_rules.specs.Made.{Made, no_fill}
 use Rattle.fill_rules.specs.Nodes.{Node, rank_in}
 use Rattle.fills.specs.Fills.{AreBoardFills}
-use Rattle.output_rules.specs.declared.report.TaskLine.{TaskLine}
 use Rattle.output_rules.specs.declared.report.Copper.{Copper}
 use Rattle.output_rules.specs.declared.report.Copper.TheVariants.{Part}
 use Rattle.output_rules.specs.declared.report.NodeLine.{NodeLine}

@@ -18,7 +18,8 @@ use Rattle.run_rules.specs.Laws.{RangeLaw}
 use Rattle.run_rules.specs.Filled.{Filled, IsFilled}
 use Rattle.headline.specs.Headline.{IsAsPromised, IsFilledBy, HeadlineLaw}
 use Rattle.headline.proofs.Copper.{ClearanceLaws, fill_covered, clearances}
-use Rattle.headline.proofs.Nets.{clusters, trees}
+use Rattle.headline.proofs.Nets.{clusters}
+use Rattle.headline.proofs.Trees.{trees}
 
 -- the laws that it stands on
 pub record Laws : Type 0 where
@@ -40,7 +41,7 @@ promised laws text rules f sound h =
       cover = cover;
       clear = clearances f.board f.traced b laws.clear cover;
       clusters = λ i j l m. clusters laws.labels laws.classes laws.nets f.board f.fills h.is_report.labels f.report i j h.is_report.are_clusters h.is_report.nets l m;
-      trees = λ net o. trees laws.trees f.board f.fills h.is_report.labels f.report net h.is_report.are_clusters h.is_report.nets o;
+      trees = λ net o. trees laws.trees laws.labels laws.classes laws.nets f.board f.fills h.is_report.labels f.report net h.are_fills h.is_report.are_clusters h.is_report.nets o;
     }
 
 by_command : Laws → (command : Command) (s : Seen) (f : Filled) → IsCommandInRange command → IsFilledBy command s f → IsAsPromised f

@@ -1,10 +1,11 @@
--- The clusters of a report are the classes of touching copper, and the lines of each net are a least tree.
-use Rattle.std.proofs.Common.{◌≡◌, refl, sym, ◌∙◌, ap, subst, arith, ℕ, zero, suc, ◌<◌, ◌≤◌, inl, inr, List, [], ◌∷◌, length, get_or, Some, slice_get}
+-- The clusters of a report are the classes of touching copper.
+use Rattle.std.proofs.Common.{◌≡◌, refl, sym, ◌∙◌, ap, subst, arith, ℕ, ◌<◌, ◌≤◌, inl, inr, List, [], ◌∷◌, length, get_or, Some, slice_get}
 use Rattle.std.specs.Prelude.{◌==◌, ◌↔◌}
 use Rattle.std.proofs.lemmas.Option.{slice_get-get_or}
 use Rattle.classes.specs.Classes.{IsOneOf}
+use Rattle.islands.proofs.Members.{one_at}
 use Rattle.ratsnest.specs.declared.Pair.{Pair}
-use Rattle.ratsnest.specs.Ratsnest.{IsTree, TreeLaw}
+use Rattle.ratsnest.specs.Ratsnest.{IsTree}
 use Rattle.board_language.specs.Board.{Board}
 use Rattle.board_language.proofs.Members.{one_of_map, map_one_of}
 use Rattle.fill_rules.specs.Made.{Made}
@@ -14,13 +15,13 @@ use Rattle.fill_rules.specs.ClusterLaws.{ClusterLaw, LabelLaw}
 use Rattle.output_rules.specs.Report.{NetLines, Report}
 use Rattle.output_rules.specs.Reported.{nets_of, net_at, labels_of, members_of, net_lines, AreNetLines}
 use Rattle.output_rules.specs.Laws.{NetsLaw}
-use Rattle.headline.specs.Headline.{StandTogether, HasLeastTree}
+use Rattle.headline.specs.Headline.{StandTogether}
 use Rattle.headline.proofs.Places.{eq_same, member_is, is_member, is_first, passing}
 
 -- ---- the lines of nets
 
 -- the net's lines are those of one of the nets
-record IsListed (b : Board) (fills : List Made) (labels nets : List ℕ) (lines : NetLines) : Type 0 where
+pub record IsListed (b : Board) (fills : List Made) (labels nets : List ℕ) (lines : NetLines) : Type 0 where
   pub net : ℕ
   pub one : IsOneOf net nets
   pub pairs : List Pair
@@ -31,7 +32,7 @@ more_listed : (b : Board) (fills : List Made) (labels nets : List ℕ) (n : ℕ)
 unfolding IsOneOf
 more_listed b fills labels nets n lines h = record { net = h.net; one = inr h.one; pairs = h.pairs; tree = h.tree; is = h.is }
 
-listed : (b : Board) (fills : List Made) (labels nets : List ℕ) (all : List NetLines) (lines : NetLines) → AreNetLines b fills labels nets all → IsOneOf lines all → IsListed b fills labels nets lines
+pub listed : (b : Board) (fills : List Made) (labels nets : List ℕ) (all : List NetLines) (lines : NetLines) → AreNetLines b fills labels nets all → IsOneOf lines all → IsListed b fills labels nets lines
 unfolding IsOneOf
 listed b fills labels [] all lines a h = absurd (subst (λ ls. IsOneOf lines ls) a h)
 listed b fills labels (n ∷ nets) all lines a h = elim (subst (λ ls. IsOneOf lines ls) a.4 h) [
@@ -66,7 +67,7 @@ same_label b fills labels r i j a h =
     (first.0, second.0, first.1 ∙ sym second.1)
 
 -- a label is its own
-own_label : LabelLaw → ClusterLaw → (b : Board) (fills : List Made) (labels : List ℕ) → AreClusters b fills labels → (i : ℕ) → i < length labels
+pub own_label : LabelLaw → ClusterLaw → (b : Board) (fills : List Made) (labels : List ℕ) → AreClusters b fills labels → (i : ℕ) → i < length labels
     → (get_or labels i 0 < length labels) × (get_or labels (get_or labels i 0) 0 ≡ get_or labels i 0)
 unfolding IsOneCluster
 own_label law classes b fills labels a i l =
@@ -74,13 +75,6 @@ own_label law classes b fills labels a i l =
     let below : get_or labels i 0 ≤ i = least.least i (classes.itself b fills i) in
     let within : get_or labels i 0 < length labels = omega (arith, below, l) in
     (within, sym (law.same b fills labels i (get_or labels i 0) a l within least.reached))
-
--- what stands at a place is one of the list
-one_at : {A : Type 0} (xs : List A) (k : ℕ) (d : A) → k < length xs → IsOneOf (get_or xs k d) xs
-unfolding IsOneOf
-one_at [] k d l = absurd (omega (arith, l))
-one_at (x ∷ xs) zero d l = inl refl
-one_at (x ∷ xs) (suc k) d l = inr (one_at xs k d (omega (arith, l)))
 
 -- the net of a node is one of the report
 net_there : NetsLaw → (b : Board) (fills : List Made) (k : ℕ) → k < length (nodes_of b fills) → IsOneOf (net_at b fills k) (nets_of b fills)
@@ -110,19 +104,3 @@ clusters law classes nets b fills labels r i j a lines l m = (
       let o = subst (λ n. j < n) (sym a.each) m in
       in_line law classes nets b fills labels r i j a lines k o (law.same b fills labels i j a k o h)),
 )
-
--- ---- ratsnests
-
-pub trees : TreeLaw → (b : Board) (fills : List Made) (labels : List ℕ) (r : Report) (lines : NetLines) → AreClusters b fills labels → AreNetLines b fills labels (nets_of b fills) r.nets
-    → IsOneOf lines r.nets → HasLeastTree b fills lines
-trees law b fills labels r lines a nets h =
-    let l = listed b fills labels (nets_of b fills) r.nets lines nets h in
-    subst (λ n. HasLeastTree b fills n) (sym l.is)
-    (record {
-      labels = labels;
-      are_clusters = a;
-      pairs = l.pairs;
-      joining_order = l.tree;
-      least = law.least (net_anchors b fills labels l.net) l.pairs l.tree;
-      lines = refl;
-    })

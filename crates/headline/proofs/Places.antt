@@ -9,23 +9,23 @@ use Rattle.output_rules.specs.Reported.{members_of}
 -- ---- choices
 
 -- what is in one of two lists
-in_choice : {A : Type 0} (b : Bool) (x : A) (xs ys : List A) → IsOneOf x (cond b xs ys) → ((b ≡ true) × IsOneOf x xs) ⊎ ((b ≡ false) × IsOneOf x ys)
+pub in_choice : {A : Type 0} (b : Bool) (x : A) (xs ys : List A) → IsOneOf x (cond b xs ys) → ((b ≡ true) × IsOneOf x xs) ⊎ ((b ≡ false) × IsOneOf x ys)
 in_choice true x xs ys h = inl (refl, h)
 in_choice false x xs ys h = inr (refl, h)
 
-first_choice : {A : Type 0} (b : Bool) (x : A) (xs ys : List A) → b ≡ true → IsOneOf x xs → IsOneOf x (cond b xs ys)
+pub first_choice : {A : Type 0} (b : Bool) (x : A) (xs ys : List A) → b ≡ true → IsOneOf x xs → IsOneOf x (cond b xs ys)
 first_choice true x xs ys e h = h
 first_choice false x xs ys e h = absurd (cc e)
 
-either_choice : {A : Type 0} (b : Bool) (x : A) (xs ys : List A) → IsOneOf x xs → IsOneOf x ys → IsOneOf x (cond b xs ys)
+pub either_choice : {A : Type 0} (b : Bool) (x : A) (xs ys : List A) → IsOneOf x xs → IsOneOf x ys → IsOneOf x (cond b xs ys)
 either_choice true x xs ys h k = h
 either_choice false x xs ys h k = k
 
-later : {A : Type 0} (x y : A) (xs : List A) → IsOneOf x xs → IsOneOf x (y ∷ xs)
+pub later : {A : Type 0} (x y : A) (xs : List A) → IsOneOf x xs → IsOneOf x (y ∷ xs)
 unfolding IsOneOf
 later x y xs h = inr h
 
-here : {A : Type 0} (x y : A) (xs : List A) → x ≡ y → IsOneOf x (y ∷ xs)
+pub here : {A : Type 0} (x y : A) (xs : List A) → x ≡ y → IsOneOf x (y ∷ xs)
 unfolding IsOneOf
 here x y xs e = inl e
 
@@ -35,7 +35,7 @@ eq_same n = grind arith
 -- ---- the numbers of the places with a label
 
 -- the number is that of a place of the list, counted from a first one, and this stands there
-record IsPlaceOf (j : ℕ) (xs : List ℕ) (k label : ℕ) : Type 0 where
+pub record IsPlaceOf (j : ℕ) (xs : List ℕ) (k label : ℕ) : Type 0 where
   pub steps : ℕ
   pub within : steps < length xs
   pub place : k ≡ j + steps
@@ -76,7 +76,7 @@ is_member labels label k l e = subst (λ n. IsOneOf n (members_of labels label))
 
 -- ---- labels: the places that have their own number
 
-first_of : (j k : ℕ) (xs : List ℕ) → IsOneOf k (firsts_from j xs) → IsPlaceOf j xs k k
+pub first_of : (j k : ℕ) (xs : List ℕ) → IsOneOf k (firsts_from j xs) → IsPlaceOf j xs k k
 unfolding IsOneOf
 first_of j k [] h = absurd h
 first_of j k (x ∷ xs) h =

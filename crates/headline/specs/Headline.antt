@@ -1,6 +1,6 @@
 -- What is true of every board that a run fills: of what is written, its cover and its clearances; of what is reported, its
 -- clusters and its ratsnests.
-use Rattle.std.specs.Prelude.{◌≡◌, ◌↔◌, ℕ, ◌+◌, ◌*◌, ◌<◌, true, List, map, length, get_or}
+use Rattle.std.specs.Prelude.{◌≡◌, ◌↔◌, ℕ, suc, ◌+◌, ◌*◌, ◌<◌, true, List, map, length, get_or}
 use Rattle.plane.specs.Plane.{PlanePoint}
 use Rattle.plane.specs.Covering.{Covers, edges_of_all}
 use Rattle.copper_shape.specs.Shapes.{Copper}
@@ -19,10 +19,10 @@ use Rattle.fill_rules.specs.Made.{Made}
 use Rattle.fill_rules.specs.Nodes.{nodes_of}
 use Rattle.fill_rules.specs.Clusters.{IsOneCluster, AreClusters, net_anchors}
 use Rattle.ratsnest.specs.declared.Pair.{Pair}
-use Rattle.ratsnest.specs.Ratsnest.{IsTree, IsLeastTree}
+use Rattle.ratsnest.specs.Ratsnest.{IsTree, HasClusters, IsLeastTree}
 use Rattle.rings.specs.Rings.{Traced, not_traced}
 use Rattle.output_rules.specs.Report.{Report, NetLines}
-use Rattle.output_rules.specs.Reported.{line_of_pair}
+use Rattle.output_rules.specs.Reported.{labels_of, members_of, line_of_pair}
 use Rattle.board_gen.specs.Generated.{generated}
 use Rattle.desk.specs.Seen.{Seen, content}
 use Rattle.run_rules.specs.declared.words.Command.{Command}
@@ -76,7 +76,8 @@ pub record StandTogether (r : Report) (i j : ℕ) : Type 0 where
   pub second : IsOneOf j cluster
 
 -- The lines of a net are its ratsnest, in joining order. It is a least tree: it joins all clusters of the net's anchors, with one
--- line fewer than there are clusters, and no list of lines that joins them all has fewer lines longer than some length.
+-- line fewer than there are clusters, and no list of lines that joins them all has fewer lines longer than some length. The clusters
+-- that are reported of the net are these clusters, each once: so a net with n reported clusters has n - 1 lines.
 pub record HasLeastTree (b : Board) (fills : List Made) (net : NetLines) : Type 0 where
   pub labels : List ℕ
   pub are_clusters : AreClusters b fills labels
@@ -84,6 +85,11 @@ pub record HasLeastTree (b : Board) (fills : List Made) (net : NetLines) : Type 
   pub joining_order : IsTree (net_anchors b fills labels net.net) pairs
   pub least : IsLeastTree (net_anchors b fills labels net.net) pairs
   pub lines : net.lines ≡ map (line_of_pair (net_anchors b fills labels net.net)) pairs
+  -- each line of a cluster is that of a label, and the labels are the clusters of the anchors, each once
+  pub clusters : net.clusters ≡ map (members_of labels) (labels_of b fills labels net.net)
+  pub named : HasClusters (net_anchors b fills labels net.net) (labels_of b fills labels net.net)
+  -- the report has one line of the ratsnest fewer than lines of clusters, of which there is at least one
+  pub count : suc (length net.lines) ≡ length net.clusters
 
 -- ---- the headline
 

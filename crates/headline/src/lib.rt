@@ -14,7 +14,8 @@ use ratsnest::tree_law;
 use run_rules::range_law;
 
 /// Whatever the words and the contents: the rings of the board that is filled cover exactly the copper that the rules want, which
-/// keeps the clearances; the clusters of its report are the classes of touching copper, and the lines of each net are a least tree.
+/// keeps the clearances; the clusters of its report are the classes of touching copper, and the lines of each net are a least tree of
+/// its clusters, one line fewer than there are.
 pub fn headline_law()
     ensures { HeadlineLaw }
 {

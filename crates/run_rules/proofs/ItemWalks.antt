@@ -1,5 +1,5 @@
 -- A walk over the rows of a board, row by row.
-use Rattle.std.proofs.Common.{◌≡◌, ◌∙◌, sym, ap, refl, ℕ, suc, ◌+◌, ◌-◌, ◌<◌, ◌≤◌, arith}
+use Rattle.std.proofs.Common.{◌≡◌, ◌∙◌, sym, ap, ℕ, suc, ◌+◌, ◌-◌, ◌<◌, ◌≤◌, arith}
 use Rattle.board_gen.specs.Generated.{state_after, number_after_cells}
 use Rattle.run_rules.specs.Items.{items_after}
 

@@ -2,6 +2,15 @@ pub mod Sorted
 pub mod OneFilled
 pub mod OneDue
 pub mod Wanteds
-pub mod Readings
+pub mod Reader
+pub mod ReaderGives
+pub mod LineRules
+pub mod LineRows
+pub mod LineWords
+pub mod LineSteps
+pub mod LineEnds
+pub mod LineReads
+pub mod LineParses
+pub mod Dashes
 pub mod Ranges
 pub mod ItemWalks

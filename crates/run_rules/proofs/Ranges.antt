@@ -1,6 +1,6 @@
 -- The numbers of a command are in their ranges.
 use Rattle.std.proofs.Common.{◌≡◌, subst, refl, ℕ, ◌<◌, ◌≤◌, ◌^◌, arith, Bool, true, false, List, [], ◌∷◌, length, Option, None, Some}
-use Rattle.std.specs.Prelude.{not, ◌&&◌, ◌||◌, if◌then◌else◌, nat_lt, nat_le, int_le, is_none, pos, ℤ, negsuc}
+use Rattle.std.specs.Prelude.{not, ◌&&◌, if◌then◌else◌, nat_lt, nat_le, int_le, is_none, pos, ℤ, negsuc}
 use Rattle.std.specs.Str.{bytes_eq}
 use Rattle.std.specs.List.{list_all}
 use Rattle.std.specs.Char.{is_ascii_digit}
@@ -13,7 +13,7 @@ use Rattle.run_rules.specs.declared.words.Flag.TheVariants.{Threads, Clearance, 
 use Rattle.run_rules.specs.declared.words.UsageFault.TheVariants as fault
 use Rattle.run_rules.specs.declared.words.Command.{Command}
 use Rattle.run_rules.specs.declared.words.Command.TheVariants.{Report, Generate}
-use Rattle.run_rules.specs.Words.{GivenWord, Setting, Reading, Wanted, IsWorkerCount, IsCommandInRange, is_number, is_clearance, is_seed, is_size, has_flag, value_of, has_threads, has_lengths, threads_in, rules_in, default_rules, checked, fill_wanted, refill_of, report_of, generate_of, command_of, is_whole_stand, has_setting_twice, wanted_as, with_words, nothing_read, wanted}
+use Rattle.run_rules.specs.Words.{GivenWord, Settings, Given, Wanted, IsWorkerCount, IsCommandInRange, is_number, is_clearance, is_seed, is_size, has_flag, value_of, has_threads, has_lengths, threads_in, rules_in, default_rules, checked, fill_wanted, refill_of, report_of, generate_of, command_of, has_any_flag, wanted_as, given_by, wanted}
 use Rattle.run_rules.specs.Words.Wanted.{Wrong, Run}
 use Rattle.run_rules.specs.Laws.{RangeLaw}
 
@@ -43,12 +43,12 @@ clearance word e =
     let ends = both (int_le (pos 2) (length_of word)) (int_le (length_of word) (pos 100000000)) parts.1 in
     small (length_of word) ends.0 ends.1
 
-sound : (settings : List Setting) → has_lengths settings ≡ true → AreSoundRules (rules_in settings)
+sound : (settings : Settings) → has_lengths settings ≡ true → AreSoundRules (rules_in settings)
 sound settings e =
     let lengths = both (is_clearance (value_of Clearance settings)) (is_clearance (value_of EdgeClearance settings)) e in
     record { floor = clearance (value_of Clearance settings) lengths.0; edge = clearance (value_of EdgeClearance settings) lengths.1 }
 
-workers : (settings : List Setting) → has_threads settings ≡ true → IsWorkerCount (threads_in settings)
+workers : (settings : Settings) → has_threads settings ≡ true → IsWorkerCount (threads_in settings)
 workers settings e = within 9 1 64 (value_of Threads settings) e
 
 -- ---- what is wanted
@@ -75,7 +75,7 @@ unfolding IsRight
 right command h = h
 
 -- where the values are right, the command is
-in_checked : (settings : List Setting) (distinct : Bool) (command : Command) → (IsWorkerCount (threads_in settings) → AreSoundRules (rules_in settings) → IsCommandInRange command)
+in_checked : (settings : Settings) (distinct : Bool) (command : Command) → (IsWorkerCount (threads_in settings) → AreSoundRules (rules_in settings) → IsCommandInRange command)
     → IsRight (checked settings distinct command)
 in_checked settings distinct command h =
     either (not (has_threads settings)) _ _ (λ e. wrong fault.Threads) (λ t.
@@ -83,57 +83,56 @@ in_checked settings distinct command h =
     either (not distinct) _ _ (λ e. wrong fault.SameName) (λ e.
     right command (h (workers settings (not_true (has_threads settings) t)) (sound settings (not_true (has_lengths settings) l))))))
 
-in_fill : (names : List GivenWord) (settings : List Setting) → IsRight (fill_wanted names settings)
+in_fill : (names : List GivenWord) (settings : Settings) → IsRight (fill_wanted names settings)
 in_fill [] settings = wrong fault.Words
 in_fill (a ∷ []) settings = wrong fault.Words
 in_fill (a ∷ b ∷ []) settings = in_checked settings _ _ (λ t r. (t, r))
 in_fill (a ∷ b ∷ c ∷ names) settings = wrong fault.Words
 
-in_refill : (names : List GivenWord) (settings : List Setting) → IsRight (refill_of names settings)
+in_refill : (names : List GivenWord) (settings : Settings) → IsRight (refill_of names settings)
 in_refill [] settings = wrong fault.Words
 in_refill (a ∷ []) settings = wrong fault.Words
 in_refill (a ∷ b ∷ []) settings = wrong fault.Words
 in_refill (a ∷ b ∷ c ∷ []) settings = in_checked settings _ _ (λ t r. (t, r))
 in_refill (a ∷ b ∷ c ∷ d ∷ names) settings = wrong fault.Words
 
-in_report : (names : List GivenWord) (settings : List Setting) → IsRight (report_of names settings)
+in_report : (names : List GivenWord) (settings : Settings) → IsRight (report_of names settings)
 in_report [] settings = wrong fault.Words
 in_report (a ∷ []) settings = either (has_flag Threads settings) _ _ (λ e. wrong fault.Words) (λ e. in_checked settings true (Report a (rules_in settings)) (λ t r. r))
 in_report (a ∷ b ∷ names) settings = wrong fault.Words
 
-in_generate : (names : List GivenWord) (settings : List Setting) → IsRight (generate_of names settings)
+in_generate : (names : List GivenWord) (settings : Settings) → IsRight (generate_of names settings)
 in_generate [] settings = wrong fault.Words
 in_generate (a ∷ []) settings = wrong fault.Words
 in_generate (a ∷ b ∷ []) settings = wrong fault.Words
-in_generate (a ∷ b ∷ c ∷ []) [] =
+in_generate (a ∷ b ∷ c ∷ []) settings =
+    either (has_any_flag settings) _ _ (λ e. wrong fault.Words) (λ e.
     either (not (is_seed a)) _ _ (λ e. wrong fault.Seed) (λ s.
     either (not (is_size b)) _ _ (λ e. wrong fault.Size) (λ n.
-    right (Generate (number a) (number b) c) (seed_below (number a) (within 20 0 _ a (not_true (is_seed a) s)).1, within 9 1 200 b (not_true (is_size b) n))))
+    right (Generate (number a) (number b) c) (seed_below (number a) (within 20 0 _ a (not_true (is_seed a) s)).1, within 9 1 200 b (not_true (is_size b) n)))))
   where
     seed_below : (n : ℕ) → n ≤ 18446744073709551615 → n < 2 ^ 64
     seed_below n l = omega (arith, l)
-in_generate (a ∷ b ∷ c ∷ []) (s ∷ settings) = wrong fault.Words
 in_generate (a ∷ b ∷ c ∷ d ∷ names) settings = wrong fault.Words
 
-in_command : (command : GivenWord) (names : List GivenWord) (settings : List Setting) → IsRight (command_of command names settings)
+in_command : (command : GivenWord) (names : List GivenWord) (settings : Settings) → IsRight (command_of command names settings)
 in_command command names settings =
     either (bytes_eq command (codes "fill")) _ _ (λ e. in_fill names settings) (λ e.
     either (bytes_eq command (codes "refill")) _ _ (λ e. in_refill names settings) (λ e.
     either (bytes_eq command (codes "report")) _ _ (λ e. in_report names settings) (λ e.
     either (bytes_eq command (codes "generate")) _ _ (λ e. in_generate names settings) (λ e. wrong fault.Words))))
 
-in_words : (command : GivenWord) (read : Option Reading) → IsRight (wanted_as command read)
+in_words : (command : GivenWord) (given : Option Given) → IsRight (wanted_as command given)
 in_words command None = wrong fault.Words
-in_words command (Some r) =
-    either (not (is_whole_stand r.stand) || has_setting_twice r.options) _ _ (λ e. wrong fault.Words) (λ e. in_command command r.names r.options)
+in_words command (Some g) = in_command command g.names g.settings
 
 all_right : (words : List GivenWord) → IsRight (wanted words)
 unfolding wanted
 all_right [] = wrong fault.Words
-all_right (command ∷ words) = in_words command (with_words nothing_read words)
+all_right (command ∷ words) = in_words command (given_by words)
 
 usual : AreSoundRules default_rules
-unfolding length_fault length_of value_of
+unfolding length_fault length_of
 usual = record { floor = record { least = omega arith; most = omega arith }; edge = record { least = omega arith; most = omega arith } }
 
 pub range_law : RangeLaw

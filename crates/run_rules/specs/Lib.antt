@@ -8,3 +8,4 @@ pub mod Leaves
 pub mod Laws
 pub mod Rows
 pub mod Read
+pub mod Inner

@@ -1,40 +1,34 @@
 -- What contracts see of the words that were read.
-use Rattle.std.specs.Prelude.{◌≡◌, ℕ, Bool, true, false, List, [], ◌∷◌, map, Option, None, Some, Result, MatchResult}
-use Rattle.run_rules.specs.declared.reading.Reading as code
-use Rattle.run_rules.specs.declared.reading.Setting as settings
+use Rattle.std.specs.Prelude.{◌≡◌, ℕ, Bool, true, List, [], ◌∷◌, option_map, Result, MatchResult}
+use Rattle.run_rules.specs.declared.values.Settings as kept
 use Rattle.board_language.specs.declared.board.Rules.{Rules}
 use Rattle.run_rules.specs.declared.words.Command.{Command}
 use Rattle.run_rules.specs.declared.words.UsageFault.{UsageFault}
 use Rattle.grid_num.specs.Spelling.{number}
 use Rattle.run_rules.specs.Words as words
-use Rattle.run_rules.specs.Words.{Wanted, Setting, Reading, threads_in, rules_in, checked, is_seed, is_size, generate_of}
+use Rattle.run_rules.specs.Words.{Wanted, Settings, Given, no_settings, threads_in, rules_in, checked, is_seed, is_size, generate_of}
 use Rattle.run_rules.specs.declared.words.WordsError.{WordsError}
 use Rattle.run_rules.specs.declared.words.WordsError.TheVariants as errors
 use Rattle.run_rules.specs.Words.Wanted.{Wrong, Run}
 
--- an option that was read, with its value as a list
-abbrev pub setting_shown : settings.Setting → Setting
-setting_shown s = record { flag = s.flag; value = s.value.now }
-
--- what was read so far, as lists
-abbrev pub reading_shown : code.Reading → Reading
-reading_shown r = record { stand = r.stand; names = map (λ n. n.now) r.names.items; options = map setting_shown r.options.items }
-
--- the word was taken, and this is what was read then; or it may not stand there
-abbrev pub IsRead : Bool → Option Reading → Reading → Type 0
-IsRead true after new = after ≡ Some new
-IsRead false after new = after ≡ None
+-- the values of settings, as lists
+abbrev pub settings_shown : kept.Settings → Settings
+settings_shown s = record {
+  threads = option_map (λ v. v.now) s.threads;
+  clearance = option_map (λ v. v.now) s.clearance;
+  edge_clearance = option_map (λ v. v.now) s.edge_clearance;
+}
 
 -- the values of the options are right, and these are they
-pub record AreValues (threads : ℕ) (rules : Rules) (options : List Setting) : Type 0 where
-  pub threads_right : words.has_threads options ≡ true
-  pub lengths_right : words.has_lengths options ≡ true
-  pub threads_is : threads ≡ threads_in options
-  pub rules_is : rules ≡ rules_in options
+pub record AreValues (threads : ℕ) (rules : Rules) (settings : Settings) : Type 0 where
+  pub threads_right : words.has_threads settings ≡ true
+  pub lengths_right : words.has_lengths settings ≡ true
+  pub threads_is : threads ≡ threads_in settings
+  pub rules_is : rules ≡ rules_in settings
 
 -- whatever the command, this is its first fault
-abbrev pub IsValueFault : UsageFault → List Setting → Type 0
-IsValueFault fault options = (distinct : Bool) (command : Command) → checked options distinct command ≡ Wrong fault
+abbrev pub IsValueFault : UsageFault → Settings → Type 0
+IsValueFault fault settings = (distinct : Bool) (command : Command) → checked settings distinct command ≡ Wrong fault
 
 -- the command that the words want, or their fault; want of memory aside
 abbrev pub IsErrorOf : WordsError → Wanted → Type 0
@@ -54,4 +48,4 @@ pub record IsSource (seed size : ℕ) (first second : List ℕ) : Type 0 where
 
 -- whatever the file's name, this is their first fault
 abbrev pub IsSourceFault : UsageFault → List ℕ → List ℕ → Type 0
-IsSourceFault fault first second = (output : List ℕ) → generate_of (first ∷ second ∷ output ∷ []) [] ≡ Wrong fault
+IsSourceFault fault first second = (output : List ℕ) → generate_of (first ∷ second ∷ output ∷ []) no_settings ≡ Wrong fault

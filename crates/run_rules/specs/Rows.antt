@@ -35,6 +35,8 @@ pub record CommandRows : Type 0 where
   pub anywhere : wanted (codes "fill" ∷ codes "--clearance" ∷ codes "0.3" ∷ a ∷ codes "--edge-clearance=1" ∷ b ∷ []) ≡ Run (Fill a b 1 (record { floor = 300000; edge = 1000000 }))
   -- behind `--` every word is a name, and `-` is one anywhere
   pub names : wanted (codes "fill" ∷ codes "-" ∷ codes "--" ∷ codes "--threads" ∷ []) ≡ Run (Fill (codes "-") (codes "--threads") 1 usual)
+  -- a second `--` is a name, and a name may be empty
+  pub second_dashes : wanted (codes "fill" ∷ codes "--" ∷ codes "--" ∷ [] ∷ []) ≡ Run (Fill (codes "--") [] 1 usual)
   pub refill : wanted (codes "refill" ∷ a ∷ b ∷ codes "c" ∷ []) ≡ Run (Refill a b (codes "c") 1 usual)
   pub report : wanted (codes "report" ∷ a ∷ []) ≡ Run (Report a usual)
   pub generate : wanted (codes "generate" ∷ codes "7" ∷ codes "200" ∷ b ∷ []) ≡ Run (Generate 7 200 b)
@@ -50,6 +52,10 @@ pub record FaultRows : Type 0 where
   pub twice : wanted (codes "fill" ∷ a ∷ b ∷ codes "--threads=1" ∷ codes "--threads=1" ∷ []) ≡ Wrong fault.Words
   pub no_value : wanted (codes "fill" ∷ a ∷ b ∷ codes "--threads" ∷ []) ≡ Wrong fault.Words
   pub value_as_option : wanted (codes "fill" ∷ a ∷ b ∷ codes "--threads" ∷ codes "-1" ∷ []) ≡ Wrong fault.Words
+  -- `-` is no value that is a word of its own, and a wrong one behind `=`
+  pub dash_as_value : wanted (codes "fill" ∷ a ∷ b ∷ codes "--threads" ∷ codes "-" ∷ []) ≡ Wrong fault.Words
+  pub joined_dash : wanted (codes "fill" ∷ a ∷ b ∷ codes "--threads=-" ∷ []) ≡ Wrong fault.Threads
+  pub shortened : wanted (codes "fill" ∷ a ∷ b ∷ codes "--thread=2" ∷ []) ≡ Wrong fault.Words
   pub report_threads : wanted (codes "report" ∷ a ∷ codes "--threads" ∷ codes "2" ∷ []) ≡ Wrong fault.Words
   pub generate_names : wanted (codes "generate" ∷ codes "0" ∷ codes "1" ∷ []) ≡ Wrong fault.Words
   pub threads : wanted (codes "fill" ∷ a ∷ b ∷ codes "--threads" ∷ codes "65" ∷ []) ≡ Wrong fault.Threads

@@ -1,13 +1,16 @@
 // The command that the words of a run give, or their first fault.
-ghost use Rattle.std.specs.Prelude.{◌≡◌, map, MatchResult};
+ghost use Rattle.std.specs.Prelude.{◌≡◌, map, MatchResult, Some};
 ghost use Rattle.std.specs.Str.{bytes_eq};
 ghost use Rattle.std.specs.String.{string_bytes};
+ghost use Rattle.clap.specs.Words.{found_of, rows_of};
 ghost use Rattle.run_rules.specs.Words as spec_words;
-ghost use Rattle.run_rules.specs.Read.{setting_shown, reading_shown, IsSource, IsSourceFault, IsAnswerOf};
+ghost use Rattle.run_rules.specs.Inner.Line.{given_in_rows};
+ghost use Rattle.run_rules.specs.Read.{settings_shown, IsSource, IsSourceFault, IsAnswerOf};
 
-use crate::reading::{Setting, reading_of};
-use crate::values::{has_double, has_flag, number_in, values_of};
-use crate::words::{Command, FileName, Flag, UsageFault, WordPlace, WordsError};
+use crate::line::{has_dash_value, matches_of, settings_of};
+use crate::values::{Settings, number_in, values_of};
+use crate::words::{Command, FileName, Flag, UsageFault, WordsError};
+use clap::ArgMatches;
 use std::alloc::Global;
 
 fn are_same(first: &str, second: &str) -> bool
@@ -17,14 +20,14 @@ fn are_same(first: &str, second: &str) -> bool
 }
 
 /// `fill IN OUT`
-fn fill_of(alloc: Global, names: &[&str], options: &[Setting<'_>]) -> Result<Command, WordsError>
+fn fill_of(alloc: Global, names: &[&str], settings: &Settings<'_>) -> Result<Command, WordsError>
     ensures { IsAnswerOf result
-        (spec_words.fill_wanted (map (λ n. n.now) names.now) (map setting_shown options.now)) }
+        (spec_words.fill_wanted (map (λ n. n.now) names.now) (settings_shown settings.now)) }
 {
     let [input, output] = names else {
         return Err(WordsError::Bad(UsageFault::Words));
     };
-    let values = match values_of(options) {
+    let values = match values_of(settings) {
         Ok(values) => values,
         Err(fault) => return Err(WordsError::Bad(fault)),
     };
@@ -46,14 +49,14 @@ fn are_distinct(first: &str, second: &str, third: &str) -> bool
 }
 
 /// `refill IN EDITS OUT`
-fn refill_of(alloc: Global, names: &[&str], options: &[Setting<'_>]) -> Result<Command, WordsError>
+fn refill_of(alloc: Global, names: &[&str], settings: &Settings<'_>) -> Result<Command, WordsError>
     ensures { IsAnswerOf result
-        (spec_words.refill_of (map (λ n. n.now) names.now) (map setting_shown options.now)) }
+        (spec_words.refill_of (map (λ n. n.now) names.now) (settings_shown settings.now)) }
 {
     let [input, edits, output] = names else {
         return Err(WordsError::Bad(UsageFault::Words));
     };
-    let values = match values_of(options) {
+    let values = match values_of(settings) {
         Ok(values) => values,
         Err(fault) => return Err(WordsError::Bad(fault)),
     };
@@ -70,17 +73,17 @@ fn refill_of(alloc: Global, names: &[&str], options: &[Setting<'_>]) -> Result<C
 }
 
 /// `report IN`
-fn report_of(alloc: Global, names: &[&str], options: &[Setting<'_>]) -> Result<Command, WordsError>
+fn report_of(alloc: Global, names: &[&str], settings: &Settings<'_>) -> Result<Command, WordsError>
     ensures { IsAnswerOf result
-        (spec_words.report_of (map (λ n. n.now) names.now) (map setting_shown options.now)) }
+        (spec_words.report_of (map (λ n. n.now) names.now) (settings_shown settings.now)) }
 {
     let [input] = names else {
         return Err(WordsError::Bad(UsageFault::Words));
     };
-    if has_flag(Flag::Threads, options) {
+    if settings.has(Flag::Threads) {
         return Err(WordsError::Bad(UsageFault::Words));
     }
-    let values = match values_of(options) {
+    let values = match values_of(settings) {
         Ok(values) => values,
         Err(fault) => return Err(WordsError::Bad(fault)),
     };
@@ -119,15 +122,15 @@ fn source_of(seed: &str, size: &str) -> Result<Source, UsageFault>
 fn generate_of(
     alloc: Global,
     names: &[&str],
-    options: &[Setting<'_>],
+    settings: &Settings<'_>,
 ) -> Result<Command, WordsError>
     ensures { IsAnswerOf result
-        (spec_words.generate_of (map (λ n. n.now) names.now) (map setting_shown options.now)) }
+        (spec_words.generate_of (map (λ n. n.now) names.now) (settings_shown settings.now)) }
 {
     let [seed, size, output] = names else {
         return Err(WordsError::Bad(UsageFault::Words));
     };
-    if !options.is_empty() {
+    if settings.has_any() {
         return Err(WordsError::Bad(UsageFault::Words));
     }
     let source = match source_of(seed, size) {
@@ -145,30 +148,37 @@ fn command_of(
     alloc: Global,
     command: &str,
     names: &[&str],
-    options: &[Setting<'_>],
+    settings: &Settings<'_>,
 ) -> Result<Command, WordsError>
     ensures { IsAnswerOf result (spec_words.command_of command.now
-        (map (λ n. n.now) names.now) (map setting_shown options.now)) }
+        (map (λ n. n.now) names.now) (settings_shown settings.now)) }
 {
     if are_same(command, "fill") {
-        fill_of(alloc, names, options)
+        fill_of(alloc, names, settings)
     } else if are_same(command, "refill") {
-        refill_of(alloc, names, options)
+        refill_of(alloc, names, settings)
     } else if are_same(command, "report") {
-        report_of(alloc, names, options)
+        report_of(alloc, names, settings)
     } else if are_same(command, "generate") {
-        generate_of(alloc, names, options)
+        generate_of(alloc, names, settings)
     } else {
         Err(WordsError::Bad(UsageFault::Words))
     }
 }
 
-fn is_whole(stand: WordPlace) -> bool
-    ensures { result ≡ spec_words.is_whole_stand stand }
+/// The command of this name, with the names and options that a parse has found.
+fn parsed_command(
+    alloc: Global,
+    command: &str,
+    matches: &ArgMatches<'_>,
+) -> Result<Command, WordsError>
+    ensures { IsAnswerOf result (spec_words.wanted_as command.now
+        (Some (given_in_rows (rows_of (found_of matches.now))))) }
 {
-    match stand {
-        WordPlace::Anywhere | WordPlace::Behind => true,
-        WordPlace::AtValue(_) => false,
+    let settings = settings_of(matches);
+    match matches.get_strs("names") {
+        Some(names) => command_of(alloc, command, names, &settings),
+        None => command_of(alloc, command, &[], &settings),
     }
 }
 
@@ -184,11 +194,9 @@ pub fn read_words(alloc: Global, words: &[String]) -> Result<Command, WordsError
     let [command, rest @ ..] = words else {
         return Err(WordsError::Bad(UsageFault::Words));
     };
-    let Some(reading) = reading_of(alloc, rest)? else {
-        return Err(WordsError::Bad(UsageFault::Words));
-    };
-    if !is_whole(reading.stand) || has_double(&reading.options) {
+    if has_dash_value(rest) {
         return Err(WordsError::Bad(UsageFault::Words));
     }
-    command_of(alloc, command.as_str(), &reading.names, &reading.options)
+    let matches = matches_of(alloc, words)?;
+    parsed_command(alloc, command.as_str(), &matches)
 }

@@ -12,11 +12,11 @@ use edit_language::{EditKind, EditRefusal};
 use itoa::Buffer;
 use sexpr_text::TextKind;
 
-/// A line of at most 128 bytes.
-pub type Line = ArrayVec<u8, 128>;
+/// A line of at most 160 bytes.
+pub type Line = ArrayVec<u8, 160>;
 
 fn add(line: &mut Line, bytes: &[u8])
-    requires { array_vec_len line.old + length bytes.now ≤ 128 }
+    requires { array_vec_len line.old + length bytes.now ≤ 160 }
     ensures items { line.new.items ≡ line.old.items ++ bytes.now }
     ensures len { array_vec_len line.new ≡ array_vec_len line.old + length bytes.now }
 {
@@ -25,7 +25,7 @@ fn add(line: &mut Line, bytes: &[u8])
 
 /// A line of three parts.
 fn line_of(first: &[u8], second: &[u8], third: &[u8]) -> Line
-    requires { length first.now + (length second.now + length third.now) ≤ 128 }
+    requires { length first.now + (length second.now + length third.now) ≤ 160 }
     ensures { result.items ≡ first.now ++ (second.now ++ third.now) }
 {
     let mut line = Line::new();

@@ -10,7 +10,7 @@ mod commands;
 mod complaints;
 mod ended;
 mod items;
-mod reading;
+mod line;
 mod values;
 mod words;
 

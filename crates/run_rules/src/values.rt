@@ -1,5 +1,5 @@
 // The values of options: numbers of workers, and clearances.
-ghost use Rattle.std.specs.Prelude.{◌≡◌, ◌<◌, ◌≤◌, ◌∷◌, [], true, false, length, map, min, IfOk, IfSome, IsTrue, All, MatchOption, MatchResult, ◌↔◌};
+ghost use Rattle.std.specs.Prelude.{◌≡◌, ◌<◌, ◌≤◌, ◌∷◌, [], true, false, length, min, option_map, IfOk, IfSome, IsTrue, All, MatchOption, MatchResult, ◌↔◌};
 ghost use Rattle.std.specs.List.{list_all};
 ghost use Rattle.std.specs.Char.{is_ascii_digit, IsAsciiDigit};
 ghost use Rattle.grid_num.specs.Spelling.{number};
@@ -7,71 +7,65 @@ ghost use Rattle.run_rules.specs.Words as words;
 ghost use Rattle.board_text.specs.Items.{size_of};
 ghost use Rattle.board_language.specs.Clearances.{IsClearance};
 ghost use Rattle.board_text.specs.Numbers.{length_of};
-ghost use Rattle.run_rules.specs.Read.{setting_shown, AreValues, IsValueFault};
+ghost use Rattle.run_rules.specs.Read.{settings_shown, AreValues, IsValueFault};
 
-use crate::reading::Setting;
 use crate::words::{Flag, UsageFault};
 use board_language::Rules;
 use board_text::{length_fault, length_of};
 
 // ---- the values of options
 
-fn is_flag(a: Flag, b: Flag) -> bool
-    ensures { result ≡ words.is_flag a b }
-{
-    matches!(
-        (a, b),
-        (Flag::Threads, Flag::Threads)
-            | (Flag::Clearance, Flag::Clearance)
-            | (Flag::EdgeClearance, Flag::EdgeClearance)
-    )
+/// The values of the options that are there.
+#[derive(Clone, Copy, Drop)]
+pub struct Settings<'a> {
+    pub threads: Option<&'a str>,
+    pub clearance: Option<&'a str>,
+    pub edge_clearance: Option<&'a str>,
 }
 
-pub fn has_flag(flag: Flag, options: &[Setting<'_>]) -> bool
-    ensures { result ≡ words.has_flag flag (map setting_shown options.now) }
-{
-    'options: for option in options {
-        if is_flag(option.flag, flag) {
-            return true;
+impl<'a> Settings<'a> {
+    /// The value of this option, if it is there.
+    pub fn get(&self, flag: Flag) -> Option<&'a str>
+        ensures { option_map (λ v. v.now) result ≡ words.setting flag (settings_shown self.now) }
+    {
+        match flag {
+            Flag::Threads => self.threads,
+            Flag::Clearance => self.clearance,
+            Flag::EdgeClearance => self.edge_clearance,
         }
     }
-    false
-}
 
-/// Whether an option stands twice.
-#[tactic(auto, unfolding(crate::specs::Words::has_setting_twice))]
-pub fn has_double(options: &[Setting<'_>]) -> bool
-    ensures { result ≡ words.has_setting_twice (map setting_shown options.now) }
-{
-    'options: for place in 0..options.len() {
-        if has_flag(options[place].flag, &options[place + 1..]) {
-            return true;
-        }
+    /// Whether the option is there.
+    pub fn has(&self, flag: Flag) -> bool
+        ensures { result ≡ words.has_flag flag (settings_shown self.now) }
+    {
+        self.get(flag).is_some()
     }
-    false
+
+    /// Whether an option is there.
+    pub fn has_any(&self) -> bool
+        ensures { result ≡ words.has_any_flag (settings_shown self.now) }
+    {
+        self.has(Flag::Threads) || self.has(Flag::Clearance) || self.has(Flag::EdgeClearance)
+    }
+
+    /// The value of this option: where it isn't there, its default.
+    fn value_of(&self, flag: Flag) -> &'a [u8]
+        ensures { result.now ≡ words.value_of flag (settings_shown self.now) }
+    {
+        self.get(flag).unwrap_or(default_of(flag)).as_bytes()
+    }
 }
 
 /// What is meant where an option isn't there.
-fn default_of(flag: Flag) -> &'static [u8]
+fn default_of(flag: Flag) -> &'static str
     ensures { result.now ≡ words.default_of flag }
 {
     match flag {
-        Flag::Threads => b"1",
-        Flag::Clearance => b"0.2",
-        Flag::EdgeClearance => b"0.5",
+        Flag::Threads => "1",
+        Flag::Clearance => "0.2",
+        Flag::EdgeClearance => "0.5",
     }
-}
-
-#[tactic(auto, unfolding(crate::specs::Words::value_of))]
-fn value_of<'a>(flag: Flag, options: &[Setting<'a>]) -> &'a [u8]
-    ensures { result.now ≡ words.value_of flag (map setting_shown options.now) }
-{
-    'options: for option in options {
-        if is_flag(option.flag, flag) {
-            return option.value;
-        }
-    }
-    default_of(flag)
 }
 
 // ---- numbers
@@ -138,18 +132,18 @@ pub struct Values {
 }
 
 /// What the options say, or the first fault of their values.
-pub fn values_of(options: &[Setting<'_>]) -> Result<Values, UsageFault>
+pub fn values_of(settings: &Settings<'_>) -> Result<Values, UsageFault>
     ensures { MatchResult result
-        (λ v. AreValues v.threads v.rules (map setting_shown options.now))
-        (λ fault. IsValueFault fault (map setting_shown options.now)) }
+        (λ v. AreValues v.threads v.rules (settings_shown settings.now))
+        (λ fault. IsValueFault fault (settings_shown settings.now)) }
 {
-    let Some(threads) = number_in(value_of(Flag::Threads, options), 9, 1, 64) else {
+    let Some(threads) = number_in(settings.value_of(Flag::Threads), 9, 1, 64) else {
         return Err(UsageFault::Threads);
     };
-    let Some(floor) = clearance_in(value_of(Flag::Clearance, options)) else {
+    let Some(floor) = clearance_in(settings.value_of(Flag::Clearance)) else {
         return Err(UsageFault::Length);
     };
-    let Some(edge) = clearance_in(value_of(Flag::EdgeClearance, options)) else {
+    let Some(edge) = clearance_in(settings.value_of(Flag::EdgeClearance)) else {
         return Err(UsageFault::Length);
     };
     Ok(Values {

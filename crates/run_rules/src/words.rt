@@ -53,17 +53,6 @@ pub enum Flag {
     EdgeClearance,
 }
 
-/// Where the reading of the words behind a command stands.
-#[derive(Clone, Copy, PartialEq, Eq, Debug, Drop)]
-pub enum WordPlace {
-    /// At a name or an option.
-    Anywhere,
-    /// At the value of an option.
-    AtValue(Flag),
-    /// Behind `--`, where every word is a name.
-    Behind,
-}
-
 /// The name of a file. Contracts see its bytes.
 #[derive(Drop)]
 pub struct FileName {

@@ -7,14 +7,17 @@
 ghost use Rattle.std.specs.Prelude.{◌≡◌, ◌<◌};
 
 use desk::MemoryDesk;
+use fill_pool::OpenGate;
 use grid_num::Memory;
 use run_rules::status;
 use std::alloc::{AllocError, Global};
 use std::marker::Brand;
+use std::sync::Wait;
 use std::sync::ledger::{Blank, Ledger};
+use std::thread::Threads;
 use std::{io, str};
 use step_count::Steps;
-use top_call::run_single;
+use top_call::run;
 
 /// Runs, and the board that they find.
 #[derive(Drop)]
@@ -51,13 +54,19 @@ fn words_of(alloc: Global, line: &str) -> Result<Vec<String>, AllocError> {
 }
 
 /// The status of a run over a desk in memory, by a count of its own.
-fn outcome<L: Ledger>(alloc: Global, words: &[String], desk: &mut MemoryDesk, blank: Blank) -> u8
+fn outcome<R: Threads + Wait + Sync, L: Ledger>(
+    rt: &R,
+    alloc: Global,
+    words: &[String],
+    desk: &mut MemoryDesk,
+    blank: Blank,
+) -> u8
     requires name { blank.name ≡ L.name }
     requires parts { blank.parts ≡ L.parts }
     requires some { 0 < blank.parts }
 {
     let mut steps = Steps::<L>::new(blank);
-    status(&run_single(alloc, words, desk, &mut steps))
+    status(&run(rt, alloc, words, desk, &OpenGate, &mut steps))
 }
 
 fn text_of(bytes: &[u8]) -> &str {
@@ -70,11 +79,16 @@ fn behind(bytes: &[u8], count: usize) -> &[u8] {
 }
 
 /// What is printed of a run: its words and its status, and then what it said and complained.
-fn run_shown(alloc: Global, line: &str, desk: &mut MemoryDesk) -> Result<String, AllocError> {
+fn run_shown<R: Threads + Wait + Sync>(
+    rt: &R,
+    alloc: Global,
+    line: &str,
+    desk: &mut MemoryDesk,
+) -> Result<String, AllocError> {
     let words = words_of(alloc, line)?;
     let said = desk.said().len();
     let complained = desk.complained().len();
-    let status = outcome::<Brand>(alloc, &words, desk, Blank::new(1));
+    let status = outcome::<R, Brand>(rt, alloc, &words, desk, Blank::new(1));
     format!(in alloc;
         "{line}: {status}\n{}{}",
         text_of(behind(desk.said(), said)),
@@ -83,30 +97,39 @@ fn run_shown(alloc: Global, line: &str, desk: &mut MemoryDesk) -> Result<String,
 }
 
 /// What is printed of a line.
-fn line_shown(alloc: Global, line: &str, desk: &mut MemoryDesk) -> Result<String, AllocError> {
+fn line_shown<R: Threads + Wait + Sync>(
+    rt: &R,
+    alloc: Global,
+    line: &str,
+    desk: &mut MemoryDesk,
+) -> Result<String, AllocError> {
     match line.strip_prefix("show ") {
         Some(name) => format!(in alloc;
             "{line}:\n{}",
             text_of(desk.contents(name).unwrap_or(b"nothing\n"))
         ),
-        None => run_shown(alloc, line, desk),
+        None => run_shown(rt, alloc, line, desk),
     }
 }
 
 /// What is printed of a board and its runs.
-fn shown(alloc: Global, case: &Case) -> Result<String, Memory> {
+fn shown<R: Threads + Wait + Sync>(rt: &R, alloc: Global, case: &Case) -> Result<String, Memory> {
     let mut all = String::new(alloc);
     let mut desk = MemoryDesk::new(alloc, 65_536, &[])?;
     desk.put("a", case.board.as_bytes())?;
     for line in &case.runs {
-        all.push_str(line_shown(alloc, line.as_str(), &mut desk)?.as_str())?;
+        all.push_str(line_shown(rt, alloc, line.as_str(), &mut desk)?.as_str())?;
     }
     Ok(all)
 }
 
 /// What is printed of a case, or that there was no memory for it.
-fn text_shown(alloc: Global, case: &Case) -> Result<String, AllocError> {
-    match shown(alloc, case) {
+fn text_shown<R: Threads + Wait + Sync>(
+    rt: &R,
+    alloc: Global,
+    case: &Case,
+) -> Result<String, AllocError> {
+    match shown(rt, alloc, case) {
         Ok(text) => Ok(text),
         Err(_) => String::from_str(alloc, "out of memory\n"),
     }
@@ -118,13 +141,13 @@ fn main(rt: HostRuntime) -> io::Result<()> {
     for line in rt.lines(alloc) {
         let line = line?;
         if let Some(title) = line.as_str().strip_prefix("== ") {
-            print!(rt; "{}", text_shown(alloc, &case)?)?;
+            print!(rt; "{}", text_shown(&rt, alloc, &case)?)?;
             println!(rt; "== {title}")?;
             case = Case::new(alloc);
         } else {
             case.add(line)?;
         }
     }
-    print!(rt; "{}", text_shown(alloc, &case)?)?;
+    print!(rt; "{}", text_shown(&rt, alloc, &case)?)?;
     Ok(())
 }

@@ -63,6 +63,27 @@ fn cuts_the_output(rt: HostRuntime) -> Result<(), Fail> {
     Ok(())
 }
 
+#[test]
+fn cuts_the_report(rt: HostRuntime) -> Result<(), Fail> {
+    let alloc = rt.alloc();
+    let text = format!(in alloc; "{}{END}", board(alloc, "0.25", SQUARE)?)?;
+    let mut whole = desk_with(alloc, &[], text.as_bytes())?;
+    assert!(rt; run_words(alloc, &mut whole, &["fill", "a", "b"])? == DONE);
+    let said = (whole.said().len() as u64).div_ceil(100);
+    // the first call that says something fails
+    let first = whole.calls().saturating_sub(said).saturating_add(1);
+    let mut desk = desk_with(alloc, &[first], text.as_bytes())?;
+    let ended = run_words(alloc, &mut desk, &["fill", "a", "b"])?;
+    assert!(rt; ended == Ended::Unsaid { given: 0 });
+    assert!(rt; status(&ended) == 3);
+    assert!(rt; desk.contents("b") == whole.contents("b") && desk.said().is_empty());
+    assert!(rt; desk.complained() == b"zonefill: report was cut after 0 bytes\n".as_slice());
+    // the next run on the same desk meets no fault
+    assert!(rt; run_words(alloc, &mut desk, &["fill", "a", "b"])? == DONE);
+    assert!(rt; desk.said() == whole.said());
+    Ok(())
+}
+
 /// A board of one zone, with spaces behind it up to this length.
 fn padded(alloc: Global, length: usize) -> Result<Vec<u8>, AllocError> {
     let front = board(alloc, "0.25", SQUARE)?;

@@ -5,4 +5,5 @@ pub mod Settled
 pub mod Boards
 pub mod Cuts
 pub mod Stops
+pub mod Openings
 pub mod Ends

@@ -19,8 +19,8 @@ use Rattle.run_rules.specs.Due.Due.{Refuse, Pass}
 use Rattle.run_rules.specs.Leaves.{Leaves, IsCaused, HasRoomFor, file_size}
 use Rattle.top_call.specs.Today.{asked_today, OwesToday, today}
 use Rattle.top_call.specs.Refusals.{IsStopped, answer_of_words}
-use Rattle.top_call.specs.Passed.{Passes, IsPassedBy}
-use Rattle.top_call.specs.Steps.{CommandTakes, IsCounted}
+use Rattle.top_call.specs.Passed.{Passes, IsPassedBy, IsPassedOrMemory}
+use Rattle.top_call.specs.Steps.{HasCounted, IsNotDone}
 
 -- ---- what is due
 
@@ -72,35 +72,52 @@ leaves_passed words s t (EditRefused index refusal) file said lines due p = absu
 
 -- ---- what is counted
 
-pub uncounted : (words : List GivenWord) (s : Seen) (error : WordsError) (before now : Option ℕ) → IsCounted (answer_of_words error) words s before now
-uncounted words s words_errors.Memory before now = tt
-uncounted words s (words_errors.Bad fault) before now = tt
+-- nothing is said of the count where a run isn't done
+pub uncounted : (Takes : Command → Seen → (before now : ℕ) → Type 0) (words : List GivenWord) (s : Seen) (answer : Ended) (before now : ℕ) → IsNotDone answer → HasCounted Takes answer words s before now
+uncounted Takes words s (Done lines) before now h = absurd h
+uncounted Takes words s Memory before now h = tt
+uncounted Takes words s (Unreadable role) before now h = tt
+uncounted Takes words s (Unwritten given) before now h = tt
+uncounted Takes words s (Unsaid given) before now h = tt
+uncounted Takes words s (Usage fault) before now h = tt
+uncounted Takes words s (TooLong role taken) before now h = tt
+uncounted Takes words s (BadText fault) before now h = tt
+uncounted Takes words s (Refused offence) before now h = tt
+uncounted Takes words s (BadScript fault) before now h = tt
+uncounted Takes words s (EditRefused index refusal) before now h = tt
 
-pub uncounted_stop : (words : List GivenWord) (command : Command) (s : Seen) (answer : Ended) (before now : Option ℕ) → IsStopped command s answer → IsCounted answer words s before now
-uncounted_stop words command s (Done lines) before now h = absurd h
-uncounted_stop words command s Memory before now h = tt
-uncounted_stop words command s (Unreadable role) before now h = tt
-uncounted_stop words command s (Unwritten given) before now h = tt
-uncounted_stop words command s (Unsaid given) before now h = tt
-uncounted_stop words command s (Usage fault) before now h = tt
-uncounted_stop words command s (TooLong role taken) before now h = tt
-uncounted_stop words command s (BadText fault) before now h = tt
-uncounted_stop words command s (Refused offence) before now h = tt
-uncounted_stop words command s (BadScript fault) before now h = tt
-uncounted_stop words command s (EditRefused index refusal) before now h = tt
+-- words that are no command aren't done
+pub undone_words : (error : WordsError) → IsNotDone (answer_of_words error)
+undone_words words_errors.Memory = tt
+undone_words (words_errors.Bad fault) = tt
 
-pub counted : (words : List GivenWord) (command : Command) (s : Seen) (answer : Ended) (before now : Option ℕ) → asked_today words ≡ Run command → CommandTakes command s before now → IsCounted answer words s before now
-counted words command s (Done lines) before now e h = (command, e, h)
-counted words command s Memory before now e h = tt
-counted words command s (Unreadable role) before now e h = tt
-counted words command s (Unwritten given) before now e h = tt
-counted words command s (Unsaid given) before now e h = tt
-counted words command s (Usage fault) before now e h = tt
-counted words command s (TooLong role taken) before now e h = tt
-counted words command s (BadText fault) before now e h = tt
-counted words command s (Refused offence) before now e h = tt
-counted words command s (BadScript fault) before now e h = tt
-counted words command s (EditRefused index refusal) before now e h = tt
+-- and neither is a command that is stopped
+pub undone_stop : (command : Command) (s : Seen) (answer : Ended) → IsStopped command s answer → IsNotDone answer
+undone_stop command s (Done lines) h = absurd h
+undone_stop command s Memory h = tt
+undone_stop command s (Unreadable role) h = tt
+undone_stop command s (Unwritten given) h = tt
+undone_stop command s (Unsaid given) h = tt
+undone_stop command s (Usage fault) h = tt
+undone_stop command s (TooLong role taken) h = tt
+undone_stop command s (BadText fault) h = tt
+undone_stop command s (Refused offence) h = tt
+undone_stop command s (BadScript fault) h = tt
+undone_stop command s (EditRefused index refusal) h = tt
+
+pub counted : (Takes : Command → Seen → (before now : ℕ) → Type 0) (words : List GivenWord) (command : Command) (s : Seen) (answer : Ended) (before now : ℕ)
+    → asked_today words ≡ Run command → Takes command s before now → HasCounted Takes answer words s before now
+counted Takes words command s (Done lines) before now e h = (command, e, h)
+counted Takes words command s Memory before now e h = tt
+counted Takes words command s (Unreadable role) before now e h = tt
+counted Takes words command s (Unwritten given) before now e h = tt
+counted Takes words command s (Unsaid given) before now e h = tt
+counted Takes words command s (Usage fault) before now e h = tt
+counted Takes words command s (TooLong role taken) before now e h = tt
+counted Takes words command s (BadText fault) before now e h = tt
+counted Takes words command s (Refused offence) before now e h = tt
+counted Takes words command s (BadScript fault) before now e h = tt
+counted Takes words command s (EditRefused index refusal) before now e h = tt
 
 -- ---- room
 
@@ -116,6 +133,10 @@ room_for words told room left file said lines law same h due = subst (λ r. HasR
     at None (Some r) law h due = cc (law r refl)
     at (Some s) (Some r) law h due = (h r s refl refl).output file said lines (due s refl)
 
+-- where nothing has changed there is room as before
+pub room_moved : (words : List GivenWord) (told now : Option Seen) (room left : Option ℕ) → now ≡ told → left ≡ room → HasRoomFor today words told room → HasRoomFor today words now left
+room_moved words told now room left seen same h = subst (λ r. HasRoomFor today words now r) (sym same) (subst (λ t. HasRoomFor today words t room) (sym seen) h)
+
 -- there is room for a complaint
 pub room_to_complain : (words : List GivenWord) (told : Option Seen) (room left : Option ℕ) → ((n : ℕ) → room ≡ Some n → IsSome told) → left ≡ room → HasRoomFor today words told room → HasRoomTold left 256
 room_to_complain words told room left law same h = subst (λ r. HasRoomTold r 256) (sym same) (at told room law h)
@@ -127,11 +148,11 @@ room_to_complain words told room left law same h = subst (λ r. HasRoomTold r 25
 
 -- ---- causes
 
-pub caused : (answer : Ended) (before mid now : Counts) → OnlyReading before mid → IsPassedBy answer mid now → IsCaused answer before now
+pub caused : (answer : Ended) (before mid now : Counts) → OnlyReading before mid → IsPassedOrMemory answer mid now → IsCaused answer before now
 caused (Done lines) before mid now o h = tt
 caused (Unwritten given) before mid now o h = subst (λ n. Rose n now.writing) o.0 h
 caused (Unsaid given) before mid now o h = subst (λ n. Rose n now.saying) o.1 h
-caused Memory before mid now o h = absurd h
+caused Memory before mid now o h = tt
 caused (Unreadable role) before mid now o h = absurd h
 caused (Usage fault) before mid now o h = absurd h
 caused (TooLong role taken) before mid now o h = absurd h
@@ -139,3 +160,17 @@ caused (BadText fault) before mid now o h = absurd h
 caused (Refused offence) before mid now o h = absurd h
 caused (BadScript fault) before mid now o h = absurd h
 caused (EditRefused index refusal) before mid now o h = absurd h
+
+-- what is passed on is written and said, or not
+pub passed : (answer : Ended) (before now : Counts) → IsPassedBy answer before now → IsPassedOrMemory answer before now
+passed (Done lines) before now h = tt
+passed Memory before now h = tt
+passed (Unreadable role) before now h = h
+passed (Unwritten given) before now h = h
+passed (Unsaid given) before now h = h
+passed (Usage fault) before now h = h
+passed (TooLong role taken) before now h = h
+passed (BadText fault) before now h = h
+passed (Refused offence) before now h = h
+passed (BadScript fault) before now h = h
+passed (EditRefused index refusal) before now h = h

@@ -4,24 +4,25 @@ use Rattle.std.specs.Option.{option_map}
 use Rattle.desk.specs.Seen.{Seen, with_said}
 use Rattle.desk.specs.declared.Counts.{Counts}
 use Rattle.desk.specs.Faults.{Rose}
-use Rattle.board_language.specs.declared.board.Rules.{Rules}
 use Rattle.board_language.specs.Board.{Board}
 use Rattle.fill_rules.specs.Made.{Made}
 use Rattle.fills.specs.Fills.{AreBoardFills}
 use Rattle.rings.specs.Rings.{Traced}
 use Rattle.output_rules.specs.Traced.{AreTracedOf}
-use Rattle.output_rules.specs.Report.{unjoined, summary_text}
-use Rattle.fill_text.specs.declared.report.Report as said
+use Rattle.output_rules.specs.Output.{text_with_rings}
+use Rattle.output_rules.specs.Report.{summary_text}
+use Rattle.outlines.specs.Drawn.{AreRingsInRange}
 use Rattle.fill_text.specs.Said.{IsReportOf}
 use Rattle.run_rules.specs.declared.ended.Ended.{Ended}
-use Rattle.run_rules.specs.declared.ended.Ended.TheVariants.{Done, Unwritten, Unsaid}
-use Rattle.run_rules.specs.Filled.{Filled, IsFilled, written, reported}
+use Rattle.run_rules.specs.declared.ended.Ended.TheVariants.{Done, Unwritten, Unsaid, Memory}
 use Rattle.run_rules.specs.Due.{File, Due}
 use Rattle.run_rules.specs.Due.Due.{Pass}
 use Rattle.run_rules.specs.Leaves.{IsCutShort, with_output, file_size}
-use Rattle.top_call.specs.declared.filled.Outcome.{Outcome}
-use Rattle.top_call.specs.declared.filled.Written.{Written}
-use Rattle.top_call.specs.declared.made.Totals.{Totals}
+use Rattle.top_call.specs.declared.drawn.Outcome.{Outcome}
+use Rattle.top_call.specs.declared.finished.Totals.{Totals}
+use Rattle.top_call.specs.declared.opened.Opened.{Opened}
+use Rattle.top_call.specs.declared.opened.Purpose.{Purpose}
+use Rattle.top_call.specs.declared.opened.Purpose.TheVariants.{Write, Tell, Sum}
 use Rattle.top_call.specs.declared.passing.OutFile.{OutFile}
 use Rattle.top_call.specs.declared.passing.Passing.{Passing}
 
@@ -32,26 +33,8 @@ pub record IsOutcome (b : Board) (o : Outcome) : Type 0 where
   pub fills : List Made
   pub are_fills : AreBoardFills b fills
   pub are_traced : AreTracedOf fills o.traced.items
+  pub in_range : AreRingsInRange o.traced.items
   pub is_report : IsReportOf b fills o.traced.items o.report
-
--- these are the lines that are said of the filled board, and the number of its ratsnest lines
-pub record IsSaidOf (f : Filled) (r : said.Report) : Type 0 where
-  pub lines : r.bytes.items ≡ reported f
-  pub count : r.unjoined ≡ unjoined f.report.nets
-
--- the text of the filled board, and what is said of it
-pub record IsWritten (text : List ℕ) (rules : Rules) (w : Written) : Type 0 where
-  pub f : Filled
-  pub filled : IsFilled text rules f
-  pub bytes : w.bytes.items ≡ written text f
-  pub traced : w.outcome.traced.items ≡ f.traced
-  pub said : IsSaidOf f w.outcome.report
-
--- what is said of the filled board of the text
-pub record IsReported (text : List ℕ) (rules : Rules) (r : said.Report) : Type 0 where
-  pub f : Filled
-  pub filled : IsFilled text rules f
-  pub said : IsSaidOf f r
 
 -- how many rings there are, and twice the area of all of them
 pub record AreTotals (traced : List Traced) (t : Totals) : Type 0 where
@@ -74,6 +57,28 @@ file_shown f = record { name = f.name; bytes = f.bytes.items }
 abbrev pub file_of : Passing → Option File
 file_of p = option_map file_shown p.file
 
+-- the board's text with its new outlines, as the file of this name
+abbrev pub file_with : List ℕ → Opened → Outcome → File
+file_with name opened o = record { name = name; bytes = text_with_rings opened.text.items opened.board.board o.traced.items }
+
+-- the file that is written for this purpose, if there is one
+abbrev pub file_due : Purpose → Opened → Outcome → Option File
+file_due (Write output) opened o = Some (file_with output opened o)
+file_due Tell opened o = None
+file_due (Sum output items) opened o = Some (file_with output opened o)
+
+-- what is said for this purpose: the report, or the summary of a made board
+abbrev pub IsSaidFor : Purpose → Outcome → List ℕ → Type 0
+IsSaidFor (Write output) o said = said ≡ o.report.bytes.items
+IsSaidFor Tell o said = said ≡ o.report.bytes.items
+IsSaidFor (Sum output items) o said = IsSummary items o said
+
+-- what is passed on of a board that is opened and drawn
+pub record IsPassingOf (opened : Opened) (o : Outcome) (p : Passing) : Type 0 where
+  pub file : file_of p ≡ file_due opened.purpose opened o
+  pub said : IsSaidFor opened.purpose o p.said.items
+  pub lines : p.unjoined ≡ o.report.unjoined
+
 -- it is all that is due
 abbrev pub due_of : Passing → Due
 due_of p = Pass (file_of p) p.said.items p.unjoined
@@ -84,8 +89,8 @@ HasSome None = Unit {0}
 HasSome (Some file) = 0 < length file.bytes
 
 -- so many bytes of room it takes
-abbrev pub size_of : Passing → ℕ
-size_of p = file_size (file_of p) + length p.said.items
+abbrev pub wanted_room : Passing → ℕ
+wanted_room p = file_size (file_of p) + length p.said.items
 
 -- The file is written and all is said; or the file is cut; or it is whole, and what is said is cut. There is no other answer.
 abbrev pub Passes : Ended → Option File → List ℕ → ℕ → Seen → Seen → Type 0
@@ -100,3 +105,8 @@ IsPassedBy (Done lines) before now = Unit {0}
 IsPassedBy (Unwritten given) before now = Rose before.writing now.writing
 IsPassedBy (Unsaid given) before now = Rose before.saying now.saying
 IsPassedBy other before now = ⊥
+
+-- the same, or memory was wanted before
+abbrev pub IsPassedOrMemory : Ended → (before now : Counts) → Type 0
+IsPassedOrMemory Memory before now = Unit {0}
+IsPassedOrMemory answer before now = IsPassedBy answer before now

@@ -19,8 +19,8 @@ use Rattle.run_rules.specs.declared.ended.Ended.TheVariants as ended
 use Rattle.run_rules.specs.declared.ended.Role.TheVariants.{In}
 use Rattle.run_rules.specs.Due.Due.{Refuse}
 use Rattle.run_rules.specs.Leaves.{IsReading}
-use Rattle.top_call.specs.declared.filled.Refusal.{Refusal}
-use Rattle.top_call.specs.declared.filled.Refusal.TheVariants.{Memory, BadText, Refused}
+use Rattle.top_call.specs.declared.refusal.Refusal.{Refusal}
+use Rattle.top_call.specs.declared.refusal.Refusal.TheVariants.{Memory, BadText, Refused}
 use Rattle.top_call.specs.Today.{OwesToday}
 
 -- ---- texts

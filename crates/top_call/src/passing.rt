@@ -5,7 +5,7 @@ ghost use Rattle.desk.specs.Faults.{Rose, OnlyWriting};
 ghost use Rattle.desk.specs.Room.{HasRoomTold, Spends};
 ghost use Rattle.run_rules.specs.Due.{File};
 ghost use Rattle.run_rules.specs.Leaves.{IsCutShort, with_output, file_size};
-ghost use Rattle.top_call.specs.Passed.{file_of, size_of, HasSome, Passes, IsPassedBy};
+ghost use Rattle.top_call.specs.Passed.{file_of, wanted_room, HasSome, Passes, IsPassedBy};
 
 use desk::{Desk, say_all, write_all};
 use run_rules::{Ended, FileName};
@@ -47,7 +47,7 @@ fn write_out<D: Desk>(passing: &Passing, desk: &mut D) -> Result<(), u64>
 
 /// Writes the file, if there is one, and then says what is to be said.
 pub fn pass_on<D: Desk>(passing: &Passing, desk: &mut D) -> Ended
-    requires room { HasRoomTold (D.room desk.old) (size_of passing.now + 256) }
+    requires room { HasRoomTold (D.room desk.old) (wanted_room passing.now + 256) }
     requires some { HasSome (file_of passing.now) }
     ensures cause { IsPassedBy result (D.counts desk.old) (D.counts desk.new) }
     ensures passes { Told (D.seen desk.old) (λ s. (t : Seen)

@@ -37,12 +37,17 @@ pub fn board(alloc: Global, text: &str) -> Result<Board, Fail> {
     Ok(Board::read(alloc, text.as_bytes(), &tree, RULES)?)
 }
 
-/// The board of these zones.
-pub fn board_of(alloc: Global, zones: &[String]) -> Result<Board, Fail> {
+/// The text of a board of these zones.
+pub fn text_of(alloc: Global, zones: &[String]) -> Result<String, AllocError> {
     let mut text = String::from_str(alloc, HEAD)?;
     for zone in zones {
         text.push_str(zone)?;
     }
     text.push_str(")")?;
-    board(alloc, &text)
+    Ok(text)
+}
+
+/// The board of these zones.
+pub fn board_of(alloc: Global, zones: &[String]) -> Result<Board, Fail> {
+    board(alloc, text_of(alloc, zones)?.as_str())
 }

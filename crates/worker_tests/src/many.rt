@@ -24,13 +24,13 @@ fn add_ten(alloc: Global, zones: &mut Vec<String>, layer: &str) -> Result<(), Al
     Ok(())
 }
 
-// Such a row on each of four layers.
-fn forty_zones(alloc: Global) -> Result<Board, Fail> {
+/// Such a row on each of four layers.
+pub fn forty_zones(alloc: Global) -> Result<Vec<String>, AllocError> {
     let mut zones = Vec::new(alloc);
     for layer in LAYERS {
         add_ten(alloc, &mut zones, layer)?;
     }
-    board_of(alloc, &zones)
+    Ok(zones)
 }
 
 fn are_same(one: &Fill, other: &Fill) -> bool {
@@ -78,7 +78,7 @@ fn make_the_same<R: Threads + Wait + Sync>(
 
 // Whether 2, 4, 8 and 64 workers make the fills of all forty tasks that one worker makes.
 fn all_make_the_same<R: Threads + Wait + Sync>(rt: &R, alloc: Global) -> Result<bool, Fail> {
-    let board = forty_zones(alloc)?;
+    let board = board_of(alloc, &forty_zones(alloc)?)?;
     let ones = fill_with(rt, alloc, &board, 1, &OpenGate)?;
     let mut same = ones.len() == 40 && have_copper(&ones);
     for workers in [2, 4, 8, 64] {
@@ -126,7 +126,7 @@ fn both_draw_alike<R: Threads + Wait + Sync>(
 
 #[test]
 fn threads_draw_the_same_outlines(rt: HostRuntime) -> Result<(), Fail> {
-    let board = forty_zones(rt.alloc())?;
+    let board = board_of(rt.alloc(), &forty_zones(rt.alloc())?)?;
     let alike = both_draw_alike(&rt, rt.alloc(), &board)?;
     assert!(rt; alike);
     Ok(())

@@ -1,5 +1,5 @@
 //! The program `zonefill`: it fills the copper zones of KiCad boards.
-//! `run_single` is the top call; its contract says what a run does over any desk, and the program runs it over real files.
+//! `run` is the top call; its contract says what a run does over any desk, and the program runs it over real files.
 //! Places and lengths of texts are in bytes, lengths on a board in nanometres.
 #![tactic(auto)]
 
@@ -13,15 +13,18 @@ ghost use Rattle.run_rules.specs.declared.words.UsageFault.TheVariants.{Words};
 ghost use Rattle.top_call.specs.Today.{today};
 
 use desk::{Desk, RealDesk, complain_all};
+use fill_pool::OpenGate;
 use run_rules::{Ended, UsageFault, complaint, status};
 use std::alloc::Global;
 use std::marker::Brand;
 use std::process::ExitCode;
 use std::rt::Env;
+use std::sync::Wait;
 use std::sync::ledger::{Blank, Ledger};
+use std::thread::Threads;
 use std::{env, io};
 use step_count::Steps;
-use top_call::run_single;
+use top_call::run;
 
 /// The words behind the program's name.
 fn words_given<R: Env + AllocGlobal>(rt: &R) -> io::Result<Vec<String>> {
@@ -35,7 +38,8 @@ fn words_given<R: Env + AllocGlobal>(rt: &R) -> io::Result<Vec<String>> {
 }
 
 /// Runs over a desk, with a count of its own.
-fn run_counted<D: Desk, L: Ledger>(
+fn run_counted<R: Threads + Wait + Sync, D: Desk, L: Ledger>(
+    rt: &R,
     alloc: Global,
     words: &[String],
     desk: &mut D,
@@ -48,7 +52,7 @@ fn run_counted<D: Desk, L: Ledger>(
         (map string_bytes words.now) (D.seen desk.old) (D.room desk.old) }
 {
     let mut steps = Steps::<L>::new(blank);
-    run_single(alloc, words, desk, &mut steps)
+    run(rt, alloc, words, desk, &OpenGate, &mut steps)
 }
 
 /// How a run ends whose words can't be had: there is no memory for them, or one isn't UTF-8 and so is no word of a command.
@@ -73,7 +77,8 @@ fn main(rt: HostRuntime) -> ExitCode {
             return ExitCode::from(status(&ended));
         }
     };
-    let ended = run_counted::<RealDesk<HostRuntime>, Brand>(
+    let ended = run_counted::<HostRuntime, RealDesk<HostRuntime>, Brand>(
+        &rt,
         rt.alloc(),
         &words,
         &mut desk,

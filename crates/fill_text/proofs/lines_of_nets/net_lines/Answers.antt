@@ -1,4 +1,4 @@
-use Rattle.std.proofs.Common.{◌≡◌, ◌<◌, sym, ◌∙◌, subst, map, List, ℕ, arith, length, get_or}
+use Rattle.std.proofs.Common.{◌<◌, sym, subst, map, List, ℕ, arith, length}
 use Rattle.std.specs.List.{All}
 use Rattle.std.specs.Arc.{arc_value}
 use Rattle.std.proofs.lemmas.List.{get_or_read}

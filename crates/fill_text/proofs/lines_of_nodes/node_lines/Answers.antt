@@ -1,4 +1,4 @@
-use Rattle.std.proofs.Common.{◌≡◌, ◌<◌, ap, map, List, ℕ, arith, length}
+use Rattle.std.proofs.Common.{◌<◌, ap, map, List, ℕ, arith, length}
 use Rattle.std.specs.Arc.{arc_value}
 use Rattle.std.proofs.lemmas.List.{get_or_read, length-map}
 use Rattle.fill_rules.specs.Nodes as rules

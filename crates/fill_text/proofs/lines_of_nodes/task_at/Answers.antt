@@ -1,8 +1,7 @@
-use Rattle.std.proofs.Common.{◌≡◌, sym, ◌∙◌, ap, arith, length, List, ℕ, map}
+use Rattle.std.proofs.Common.{sym, ◌∙◌, ap, arith, length, List}
 use Rattle.std.proofs.lemmas.List.{length-map}
 use Rattle.std.specs.Arc.{arc_value}
 use Rattle.board_language.specs.declared.board.Zone.{Zone}
-use Rattle.fill_rules.specs.Tasks.{Task, no_task}
 use Rattle.clusters.proofs.Ranks.{task_past}
 use Rattle.fill_text.proofs.lines_of_nodes.task_at.Goals as goal
 

@@ -1,4 +1,4 @@
-use Rattle.std.proofs.Common.{◌≡◌, ◌<◌, sym, ◌∙◌, ap, subst, map, ℕ, arith, length, get_or}
+use Rattle.std.proofs.Common.{◌<◌, sym, ◌∙◌, ap, subst, map, ℕ, arith, length}
 use Rattle.std.specs.Arc.{arc_value}
 use Rattle.std.proofs.lemmas.List.{get_or_read, length-map, get_or-map}
 use Rattle.fill_rules.specs.Tasks.{ranked, task_at, no_task}

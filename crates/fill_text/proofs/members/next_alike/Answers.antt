@@ -1,4 +1,4 @@
-use Rattle.std.proofs.Common.{◌≡◌, ◌-◌, subst, sym, set, get_or, arith, length, ◌<◌, ℕ}
+use Rattle.std.proofs.Common.{◌≡◌, ◌-◌, subst, sym, set, get_or, arith, ℕ}
 use Rattle.std.proofs.lemmas.List.{get_or_read}
 use Rattle.fill_text.proofs.Alikes.{IsNextFrom, next_more, label_there}
 use Rattle.fill_text.proofs.members.next_alike.Goals as goal

@@ -1,5 +1,4 @@
-use Rattle.std.proofs.Common.{◌≡◌, sym, ◌∙◌, ap}
-use Rattle.std.specs.Prelude.{cond, [], ◌++◌}
+use Rattle.std.proofs.Common.{sym}
 use Rattle.fill_text.specs.Zone.{layer_text}
 use Rattle.fill_text.proofs.Layers.{layer_more}
 use Rattle.fill_text.proofs.zone.zone_text.Goals as goal

@@ -4,12 +4,12 @@ use Rattle.run_rules.specs.declared.words.Flag.TheVariants.{Threads}
 use Rattle.run_rules.specs.declared.words.UsageFault.{UsageFault}
 use Rattle.run_rules.specs.declared.words.UsageFault.TheVariants as fault
 use Rattle.run_rules.specs.declared.words.Command.TheVariants.{Report}
-use Rattle.run_rules.specs.Words.{GivenWord, Setting, has_flag, rules_in, checked, report_of}
+use Rattle.run_rules.specs.Words.{GivenWord, Settings, has_flag, rules_in, checked, report_of}
 use Rattle.run_rules.specs.Words.Wanted.{Wrong}
-use Rattle.run_rules.specs.Read.{setting_shown, IsValueFault}
+use Rattle.run_rules.specs.Read.{settings_shown, IsValueFault}
 use Rattle.run_rules.proofs.commands.report_of.Goals as goal
 
-faulty : {X : Type 0} (f : X → GivenWord) (xs : List X) (settings : List Setting) (why : UsageFault) → 1 ≤ length xs → length xs < 2 → has_flag Threads settings ≡ false
+faulty : {X : Type 0} (f : X → GivenWord) (xs : List X) (settings : Settings) (why : UsageFault) → 1 ≤ length xs → length xs < 2 → has_flag Threads settings ≡ false
     → IsValueFault why settings → report_of (map f xs) settings ≡ Wrong why
 faulty f [] settings why l k e h = absurd (omega (arith, l))
 faulty f (x ∷ []) settings why l k e h =
@@ -18,4 +18,4 @@ faulty f (x ∷ y ∷ xs) settings why l k e h = absurd (omega (arith, k))
 
 pub returns-in-Err : goal.returns-in-Err
 returns-in-Err c =
-    faulty (λ n. n.now) c.args.names.now (map setting_shown c.args.options.now) c.in-Err.fault c.in-len1.len_at_least c.in-len1.len_below (sym c.has_flag.ensures ∙ c.if-has_flag.false) c.in-Err.ensures
+    faulty (λ n. n.now) c.args.names.now (settings_shown c.args.settings.now) c.in-Err.fault c.in-len1.len_at_least c.in-len1.len_below (sym c.has.ensures ∙ c.if-has.false) c.in-Err.ensures

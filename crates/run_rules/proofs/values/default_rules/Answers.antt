@@ -1,8 +1,7 @@
 use Rattle.std.proofs.Common.{refl}
 use Rattle.board_text.specs.Numbers.{length_fault, length_of}
-use Rattle.run_rules.specs.Words.{value_of}
 use Rattle.run_rules.proofs.values.default_rules.Goals as goal
 
 pub returns : goal.returns
-unfolding length_fault length_of value_of
+unfolding length_fault length_of
 returns c = refl

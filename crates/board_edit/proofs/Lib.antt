@@ -1,0 +1,9 @@
+pub mod Lines
+pub mod Numbers
+pub mod Misfits
+pub mod Errors
+pub mod Readings
+pub mod Ends
+pub mod Boards
+pub mod Refused
+pub mod Arms

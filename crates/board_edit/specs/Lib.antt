@@ -1,0 +1,4 @@
+pub mod Scripts
+pub mod Edited
+pub mod Laws
+pub mod Inner
