@@ -1,7 +1,6 @@
 -- The least corner of some octagons.
 use Rattle.std.proofs.Common.{◌≡◌, refl, sym, ◌∙◌, ap, subst, ℕ, suc, ◌+◌, ◌<◌, ◌≤◌, ◌⊎◌, inl, inr, arith, zero, add-one, append-nil, Bool, true, false, cond, List, [], ◌∷◌, ◌++◌, length, get_or, take}
-use Rattle.std.specs.Prelude.{ℤ, pos, neg_ℤ, ◌+ℤ◌, ◌-ℤ◌, ◌*ℤ◌, ◌≤ℤ◌, ◌<ℤ◌, int_lt, ◌||◌, ◌&&◌, ◌==◌, flat_map, Option, Some, None, IfSome}
-use Rattle.std.specs.List.{All}
+use Rattle.std.specs.Prelude.{ℤ, pos, neg_ℤ, ◌-ℤ◌, ◌≤ℤ◌, ◌<ℤ◌, int_lt, ◌||◌, ◌&&◌, ◌==◌, flat_map, Option, Some, None, IfSome}
 use Rattle.std.proofs.lemmas.Int.{ints}
 use Rattle.std.proofs.lemmas.List.{take_all, get_or_default}
 use Rattle.std.proofs.lemmas.List.Concat.{flat_map-append}
@@ -14,7 +13,7 @@ use Rattle.octagon.specs.Room.{IsAround}
 use Rattle.grid_num.specs.declared.Point.{Point}
 use Rattle.classes.specs.Classes.{IsOneOf}
 use Rattle.cores.specs.Room.{IsInRoom}
-use Rattle.islands.proofs.Members.{none_in, one_front, one_back, one_split, of_all}
+use Rattle.islands.proofs.Members.{none_in, one_front, one_back, one_split}
 use Rattle.board_language.proofs.Members.{one_of_flat}
 use Rattle.fill_rules.specs.Clusters.{option_list, labelled, lesser, least_point, in_nm, least_of}
 use Rattle.clusters.specs.Inner.Corners.{IsNotBehind, IsLeastPoint, IsLeastCorner, IsLesserOf}

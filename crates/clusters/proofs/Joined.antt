@@ -4,7 +4,6 @@ use Rattle.std.specs.Prelude.{slice_get, Some, flat_map}
 use Rattle.std.proofs.lemmas.List.{drop_more, drop_all, get_or-map, length-map, get_or_default}
 use Rattle.std.proofs.lemmas.Option.{same_Some, none-some}
 use Rattle.plane.specs.Plane.{Bounds, In, IsMeeting}
-use Rattle.touching.specs.Core.{Touches, InCopper}
 use Rattle.touching.specs.Laws.{CopperLaw}
 use Rattle.hulls.specs.Hulls.{in_units}
 use Rattle.hulls.specs.Laws.{CopperInHullsLaw}
@@ -17,12 +16,11 @@ use Rattle.board_language.specs.Copper.{has_layer, hulls_round}
 use Rattle.board_language.proofs.Members.{one_of_append, one_of_flat, one_of_map, append_left, append_right, flat_one_of, map_one_of}
 use Rattle.fill_rules.specs.Made.{Made}
 use Rattle.fill_rules.specs.Nodes.{Node, nodes_of}
-use Rattle.fill_rules.specs.Clusters.{node_net, node_layers, shapes_of, AreTouching, AreNodesJoined, AreJoinedAt, AreClusters}
+use Rattle.fill_rules.specs.Clusters.{node_net, node_layers, shapes_of, AreTouching, AreJoinedAt, AreClusters}
 use Rattle.clusters.specs.declared.patch.Patch.{Patch}
-use Rattle.clusters.specs.declared.patches.Owner.{Owner}
-use Rattle.clusters.specs.Inner.Patches.{HaveCommonLayer, ArePatchesLinked, AreNodesLinkedBy}
+use Rattle.clusters.specs.Inner.Patches.{AreNodesLinkedBy}
 use Rattle.clusters.specs.Inner.Copper.{patch_of, shape_patches, owner_of, node_patches, patches_from}
-use Rattle.clusters.specs.Inner.Sweep.{AreLeast}
+use Rattle.spreading.specs.Labels.{AreLabels}
 
 -- ---- the patches of a list of nodes, which are numbered from k on
 
@@ -63,6 +61,10 @@ found b fills k (n ∷ ns) p i = elim (one_of_append p (node_patches b fills k n
         shape = r.shape;
       })
 ]
+
+-- none belongs to a node before k
+pub found_behind : (b : Board) (fills : List Made) (k : ℕ) (ns : List Node) (p : Patch) → IsOneOf p (patches_from b fills k ns) → k ≤ p.node
+found_behind b fills k ns p i = let e = (found b fills k ns p i).number in omega (arith, e)
 
 there : (b : Board) (fills : List Made) (k : ℕ) (ns : List Node) (j i : ℕ) (n : Node) (c : Copper) (h : Bounds) → i ≡ k + j → slice_get ns j ≡ Some n → IsOneOf c (shapes_of b fills n)
     → IsOneOf h (hulls_round c) → IsOneOf (patch_of (owner_of b i n) c h) (patches_from b fills k ns)
@@ -138,11 +140,11 @@ module _ (b : Board) (fills : List Made) where
         }
 
     -- the least of what links reach is the least of a cluster
-    pub clusters_are : (count : ℕ) (labels : List ℕ) → count ≡ length (nodes_of b fills) → AreLeast (patches_from b fills 0 (nodes_of b fills)) count labels → AreClusters b fills labels
+    pub clusters_are : (count : ℕ) (labels : List ℕ) → count ≡ length (nodes_of b fills) → AreLabels count (AreNodesLinkedBy (patches_from b fills 0 (nodes_of b fills))) labels → AreClusters b fills labels
     clusters_are count labels e h = record {
-      each = h.many ∙ e;
+      each = h.each ∙ e;
       least = λ i l.
-          let m = h.many in
+          let m = h.each in
           let a = h.least i (omega (arith, l, m)) in
           record {
             reached = reaches_map (AreNodesLinkedBy ps) (AreJoinedAt b fills) joined_of_link i (get_or labels i 0) a.reached;

@@ -1,7 +1,7 @@
-pub mod Forests
 pub mod Layers
 pub mod Links
-pub mod Sweeps
+pub mod Linking
+pub mod Ordered
 pub mod Ranks
 pub mod Listing
 pub mod Rooms

@@ -2,12 +2,12 @@
 use Rattle.std.proofs.Common.{◌≡◌, refl, sym, ◌∙◌, ap, subst, ℕ, suc, ◌+◌, ◌<◌, ◌≤◌, arith, Bool, true, false, cond, List, [], ◌∷◌, ◌++◌, length, map, get_or, drop, append_assoc, append-nil, add-one}
 use Rattle.std.specs.Prelude.{flat_map, ◌==◌}
 use Rattle.std.proofs.lemmas.Bool.Decides.{Decides-eqb}
-use Rattle.std.proofs.lemmas.List.{map-append, drop_more, drop_all, length-map, get_or-map, drop-map}
+use Rattle.std.proofs.lemmas.List.{map-append, drop_more, drop_all, length-map, get_or-map}
 use Rattle.board_language.specs.Board.{Board}
-use Rattle.fill_rules.specs.Tasks.{Task, no_task, task_zone, task_at, ranked, tasks_from}
+use Rattle.fill_rules.specs.Tasks.{Task, no_task, task_zone, task_at, ranked}
 use Rattle.fill_rules.specs.Nodes.{Node, part, passing_places, firsts_from, has_net, part_nodes, made_of}
 use Rattle.fill_rules.specs.Made.{Made, no_fill}
-use Rattle.clusters.specs.Filed.{AreRanks, AreFiled}
+use Rattle.clusters.specs.Filed.{AreFiled}
 use Rattle.clusters.proofs.Ranks.{made_at}
 
 -- a node that is added where it is wanted, seen through a map

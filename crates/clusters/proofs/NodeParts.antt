@@ -1,18 +1,17 @@
 -- What is read of nodes.
 use Rattle.std.proofs.Common.{◌≡◌, refl, sym, ◌∙◌, ap, subst, ℕ, ◌+◌, ◌^◌, ◌<◌, ◌≤◌, arith, List, [], ◌∷◌, ◌++◌, length, map, get_or, take}
-use Rattle.std.specs.Prelude.{slice_get, Option, Some, None, flat_map, pos}
+use Rattle.std.specs.Prelude.{Option, pos}
 use Rattle.std.proofs.lemmas.List.{get_or_past, get_or_default, map-append}
 use Rattle.std.proofs.lemmas.Option.{slice_get_past, slice_get-get_or}
 use Rattle.plane.specs.Plane.{Bounds}
-use Rattle.plane.specs.Corners.{corners_of}
 use Rattle.copper_shape.specs.Shapes.{Copper}
 use Rattle.board_language.specs.declared.board.Track.{Track}
 use Rattle.board_language.specs.declared.board.Zone.{Zone}
 use Rattle.board_language.specs.Board.{Board}
-use Rattle.fill_rules.specs.Tasks.{Task, ranked, task_at, task_zone, no_task, no_zone}
+use Rattle.fill_rules.specs.Tasks.{Task, ranked, task_at, task_zone, no_zone}
 use Rattle.fill_rules.specs.Made.{Made, no_fill}
-use Rattle.fill_rules.specs.Nodes.{Node, track, part, made_of}
-use Rattle.fill_rules.specs.Clusters.{option_or_zero, node_net, node_layers, labelled, part_pieces, octagon_copper, least_of}
+use Rattle.fill_rules.specs.Nodes.{track, part}
+use Rattle.fill_rules.specs.Clusters.{option_or_zero, node_net, node_layers, labelled, part_pieces, octagon_copper}
 use Rattle.fills.specs.Fills.{AreBoardFills}
 use Rattle.grid_num.specs.declared.Point.{Point}
 use Rattle.clusters.specs.Inner.Corners.{IsLeastCorner}

@@ -1,10 +1,9 @@
 -- Tasks and their ranks.
 use Rattle.std.proofs.Common.{◌≡◌, refl, sym, ◌∙◌, ap, subst, ℕ, zero, suc, ◌+◌, ◌-◌, ◌*◌, ◌<◌, ◌≤◌, ◌⊎◌, inl, inr, arith, Bool, true, false, cond, List, [], ◌∷◌, ◌++◌, length, map, get_or, set, drop, replicate, length-set, append_assoc, append-nil, add-one}
-use Rattle.std.specs.Prelude.{◌&&◌, ◌==◌, nat_eq}
-use Rattle.std.specs.List.{All}
-use Rattle.std.proofs.lemmas.Bool.{true≢false, cases_eq, cases_lt}
+use Rattle.std.specs.Prelude.{◌&&◌, ◌==◌}
+use Rattle.std.proofs.lemmas.Bool.{true≢false, cases_lt}
 use Rattle.std.proofs.lemmas.Bool.Decides.{Decides-eqb}
-use Rattle.std.proofs.lemmas.List.{get_or-set_same, get_or-set_other, get_or-replicate, length-replicate, drop_more, drop_all, get_or_past, length-map, get_or-map, get_or_default, map-append}
+use Rattle.std.proofs.lemmas.List.{get_or-set_same, get_or-set_other, get_or-replicate, length-replicate, drop_more, drop_all, get_or_past, get_or_default, map-append}
 use Rattle.std.proofs.lemmas.List.Elements.{All-append, All-nil, All-cons}
 use Rattle.classes.specs.Classes.{IsOneOf}
 use Rattle.islands.proofs.Members.{one_at}
@@ -17,8 +16,8 @@ use Rattle.fill_rules.specs.Ranking.{IsTask, Outranks, IsSortedBy}
 use Rattle.fill_rules.specs.Nodes.{rank_in, made_of}
 use Rattle.fill_rules.specs.Made.{Made, no_fill}
 use Rattle.fill_rules.proofs.Ranking.{ranked_is}
-use Rattle.fills.specs.Fills.{IsFillOf, AreBoardFills}
-use Rattle.clusters.specs.Filed.{AreRanks, AreFiled, tasks_of}
+use Rattle.fills.specs.Fills.{AreBoardFills}
+use Rattle.clusters.specs.Filed.{AreRanks, tasks_of}
 use Rattle.clusters.specs.Inner.Ranks.{IsRankTable}
 
 -- ---- the place of a task in a list

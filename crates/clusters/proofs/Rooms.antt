@@ -1,18 +1,17 @@
 -- How far the pieces of fills and the copper of nodes reach.
-use Rattle.std.proofs.Common.{◌≡◌, refl, sym, ◌∙◌, ap, subst, ℕ, ◌+◌, ◌*◌, ◌<◌, ◌≤◌, arith, inl, inr, Bool, true, false, cond, List, [], ◌∷◌, length, map, get_or}
-use Rattle.std.specs.Prelude.{slice_get, Option, Some, None, pos, ◌≤ℤ◌, ◌==◌}
+use Rattle.std.proofs.Common.{◌≡◌, refl, sym, subst, ℕ, ◌<◌, arith, inl, inr, Bool, true, false, cond, List, [], ◌∷◌, length, map, get_or}
+use Rattle.std.specs.Prelude.{slice_get, Option, Some, None, ◌==◌}
 use Rattle.std.specs.List.{All}
 use Rattle.std.proofs.lemmas.Int.{ints}
 use Rattle.std.proofs.lemmas.Bool.{cases_lt}
-use Rattle.std.proofs.lemmas.Option.{slice_get_within, get_or_from_slice_get, slice_get_past, slice_get-get_or}
+use Rattle.std.proofs.lemmas.Option.{slice_get_within, get_or_from_slice_get}
 use Rattle.std.proofs.lemmas.List.{get_or_past}
 use Rattle.std.proofs.lemmas.List.Elements.{All-nil, All-cons}
-use Rattle.plane.specs.Plane.{Bounds, IsTight, times}
+use Rattle.plane.specs.Plane.{Bounds, IsTight}
 use Rattle.octagon.specs.Room.{IsAround}
 use Rattle.touching.specs.Core.{Core, area, line}
 use Rattle.classes.specs.Classes.{IsOneOf}
-use Rattle.cores.specs.Room.{IsCoreInRoom, IsInRoom}
-use Rattle.hulls.specs.Hulls.{in_halves}
+use Rattle.cores.specs.Room.{IsCoreInRoom}
 use Rattle.copper_shape.specs.Shapes.{Copper}
 use Rattle.islands.specs.Held.{IsAnchorInRoom}
 use Rattle.islands.proofs.Members.{all_of, of_all}
@@ -22,13 +21,13 @@ use Rattle.board_language.specs.declared.board.Pad.{Pad}
 use Rattle.board_language.specs.Board.{Board}
 use Rattle.board_language.specs.Facts.{IsSoundBoard, IsSoundTrack, IsSoundVia, IsSoundPad, IsSmallShape}
 use Rattle.board_language.proofs.Members.{one_of_map}
-use Rattle.fill_rules.specs.Tasks.{Task, ranked, task_at, no_task}
+use Rattle.fill_rules.specs.Tasks.{Task, ranked}
 use Rattle.fill_rules.specs.Needs.{track_copper, via_copper}
 use Rattle.fill_rules.specs.Made.{Made, no_fill}
 use Rattle.fill_rules.specs.Nodes.{Node, pad, track, via, part, made_of, rank_in}
 use Rattle.fill_rules.specs.Clusters.{option_list, labelled, part_pieces, octagon_copper, shapes_of}
 use Rattle.fill_rules.proofs.Sound.{fillable}
-use Rattle.fills.specs.Fills.{IsFillOf, AreBoardFills}
+use Rattle.fills.specs.Fills.{AreBoardFills}
 use Rattle.knockouts.proofs.PieceRange.{piece_near, pieces_tight}
 
 -- ---- the pieces of fills

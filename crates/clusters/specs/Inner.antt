@@ -1,6 +1,5 @@
-pub mod Forest
 pub mod Patches
 pub mod Copper
-pub mod Sweep
+pub mod Links
 pub mod Ranks
 pub mod Corners

@@ -15,18 +15,17 @@ ghost use Rattle.clusters.specs.Labelling.{node_of, IsLabelling, IsEndInRange};
 mod anchors;
 mod copper;
 mod filed;
-mod forest;
 mod list;
+mod node_links;
 mod patch;
 mod patches;
 mod reading;
-mod sweep;
 
 use crate::anchors::anchors_of;
 use crate::list::list_of;
+use crate::node_links::labels;
 use crate::patches::patches_of;
 use crate::reading::nets_of;
-use crate::sweep::labels;
 use board_model::Board;
 pub use filed::{filed_ranks, fill_at, parts_of, pieces_of, task_of};
 use fills::Fill;
@@ -72,7 +71,7 @@ pub fn nodes(alloc: Global, board: &Board, fills: &[Arc<Fill>]) -> Result<Vec<No
 ///
 /// # Errors
 ///
-/// Want of memory, which 2^32 nodes or more are taken for.
+/// Want of memory, which 2^32 nodes or more, or 2^32 hulls of their copper, are taken for.
 pub fn clusters(alloc: Global, board: &Board, fills: &[Arc<Fill>]) -> Result<Labelling, Memory>
     requires { AreBoardFills board.now.board (map arc_value fills.now) }
     ensures { IfOk result (λ l. IsLabelling board.now.board (map arc_value fills.now) l) }

@@ -2,15 +2,13 @@
 ghost use Rattle.std.specs.Prelude.{◌≡◌, ℕ, ◌<◌, ◌^◌, length, map, flat_map, IfOk};
 ghost use Rattle.std.specs.List.{All};
 ghost use Rattle.std.specs.Arc.{arc_value};
-ghost use Rattle.plane.specs.Narrow.{IsNearZero};
-ghost use Rattle.octagon.specs.Room.{IsAround};
 ghost use Rattle.islands.specs.Held.{IsAnchorInRoom};
 ghost use Rattle.fill_rules.specs.Nodes.{nodes_of};
 ghost use Rattle.fill_rules.specs.Clusters.{node_net};
 ghost use Rattle.fills.specs.Fills.{AreBoardFills};
 ghost use Rattle.clusters.specs.Labelling.{node_of};
-ghost use Rattle.clusters.specs.Inner.Patches.{IsPatch, IsPlaceOfNet};
-ghost use Rattle.clusters.specs.Inner.Copper.{place_of_net, patch_of, shape_patches, patches_from};
+ghost use Rattle.clusters.specs.Inner.Patches.{IsPatch};
+ghost use Rattle.clusters.specs.Inner.Copper.{patch_of, shape_patches, patches_from};
 
 use crate::Node;
 use crate::patch::Patch;
@@ -88,8 +86,7 @@ fn patches_of_shape(alloc: Global, owner: Owner, shape: &Shape) -> Result<Vec<Pa
 }
 
 fn patch_of(owner: Owner, shape: &Shape, hull: &Oct) -> Patch
-    requires room { IsAnchorInRoom shape.now }
-    requires near { IsAround 1000000000 hull.now }
+    requires { IsAnchorInRoom shape.now }
     ensures value { result ≡ patch_of owner shape.now hull.now }
     ensures each { (n : ℕ) → owner.node < n → IsPatch n result }
 {
@@ -97,18 +94,7 @@ fn patch_of(owner: Owner, shape: &Shape, hull: &Oct) -> Patch
         node: owner.node,
         net: owner.net,
         layers: owner.layers,
-        from: place_of_net(owner.net, hull.y0()),
-        to: place_of_net(owner.net, hull.y1()),
         shape: *shape,
         hull: *hull,
     }
-}
-
-// The place of a y on the line on which nets lie one behind another.
-fn place_of_net(net: u32, y: i64) -> u64
-    requires { IsNearZero 1000000000 y }
-    ensures value { result ≡ place_of_net net y }
-    ensures is { IsPlaceOfNet net y result }
-{
-    u64::from(net) * 4294967296 + (y + 2147483648).unsigned_abs()
 }

@@ -28,3 +28,5 @@ mod row_strips;
 pub mod shapes;
 #[cfg(test)]
 mod sheets;
+#[cfg(test)]
+mod stacked;

@@ -3,7 +3,7 @@ use Rattle.std.proofs.Common.{◌≡◌, refl, ap, subst, ℕ, ◌*◌, inl, inr
 use Rattle.std.specs.Prelude.{◌↔◌, ℤ, pos, ◌*ℤ◌, Any, Result, Ok, Err, IfOk}
 use Rattle.std.specs.List.{All}
 use Rattle.std.proofs.lemmas.Int.{ints}
-use Rattle.plane.specs.Plane.{PlanePoint, Bounds, In, times}
+use Rattle.plane.specs.Plane.{PlanePoint, Bounds, In, IsOct, times}
 use Rattle.plane.specs.Covering.{Covers, edges_of_all}
 use Rattle.plane.proofs.Lists.{any_none, any_cases, any_head, any_tail, covers_on}
 use Rattle.plane.proofs.Points.{mul_mul}
@@ -13,7 +13,11 @@ use Rattle.grid_num.specs.declared.Point.{Point}
 use Rattle.hulls.specs.Laws.{nm_in_units}
 use Rattle.classes.specs.Classes.{IsOneOf}
 use Rattle.strips.specs.declared.Strip.{Strip}
-use Rattle.strips.specs.Strips.{AreCovering, in_nanometres}
+use Rattle.strips.specs.Strips.{HasInside, AreCovering, in_nanometres}
+use Rattle.strips.specs.Area.{area2_of}
+use Rattle.stacks.specs.Stacks.{IsInSome, HaveSameUnion}
+use Rattle.any_strips.specs.Laws.{AnyOutlinesLaw}
+use Rattle.rings.specs.Outlines.{AreOutlines}
 use Rattle.rings.specs.Rings.{Traced, IsRingInRange}
 use Rattle.rings.specs.Sheets.{AreRings}
 use Rattle.rings.proofs.Lists.{Has, all_of}
@@ -67,6 +71,39 @@ one_from_units [] p (o, i, h) = absurd i
 one_from_units (x ∷ pieces) p (o, inl e, h) =
     any_head (λ b. In b p) (times 2 x) (in_nanometres pieces) ((to_units x p).1 (subst (λ (u : Bounds). In u (nm_in_units p)) e h))
 one_from_units (x ∷ pieces) p (o, inr i, h) = any_tail (λ b. In b p) (times 2 x) (in_nanometres pieces) (one_from_units pieces p (o, i, h))
+
+-- so two lists with the same points have the same points in nanometres
+some_to_units : (os : List Bounds) (p : PlanePoint) → IsInSome (in_nanometres os) p → IsInSome os (nm_in_units p)
+some_to_units [] p a = absurd (any_none (λ b. In b p) a)
+some_to_units (o ∷ os) p a = elim (any_cases (λ b. In b p) (times 2 o) (in_nanometres os) a) [
+  | inl h ↦ any_head (λ b. In b (nm_in_units p)) o os ((to_units o p).0 h)
+  | inr h ↦ any_tail (λ b. In b (nm_in_units p)) o os (some_to_units os p h)
+]
+
+some_from_units : (os : List Bounds) (p : PlanePoint) → IsInSome os (nm_in_units p) → IsInSome (in_nanometres os) p
+some_from_units [] p a = absurd (any_none (λ b. In b (nm_in_units p)) a)
+some_from_units (o ∷ os) p a = elim (any_cases (λ b. In b (nm_in_units p)) o os a) [
+  | inl h ↦ any_head (λ b. In b p) (times 2 o) (in_nanometres os) ((to_units o p).1 h)
+  | inr h ↦ any_tail (λ b. In b p) (times 2 o) (in_nanometres os) (some_from_units os p h)
+]
+
+-- strips that cover the stacks cover the pieces
+pub covers_pieces : (pieces stacks : List Bounds) (ss : List Strip) → HaveSameUnion pieces stacks → AreCovering (in_nanometres stacks) ss → AreCovering (in_nanometres pieces) ss
+unfolding HaveSameUnion
+covers_pieces pieces stacks ss u c p = (
+  λ a. some_from_units pieces p ((u (nm_in_units p)).0 (some_to_units stacks p ((c p).0 a))),
+  λ a. (c p).1 (some_from_units stacks p ((u (nm_in_units p)).1 (some_to_units pieces p a))),
+)
+
+pub if_both : {A E : Type 0} (P Q R : A → Type 0) (r : Result A E) → ((x : A) → P x → Q x → R x) → IfOk r P → IfOk r Q → IfOk r R
+if_both P Q R (Ok x) f h i = f x h i
+if_both P Q R (Err e) f h i = tt
+
+-- so what is drawn from these is drawn of the pieces
+pub outlining : AnyOutlinesLaw → (pieces stacks : List Bounds) (ss : List Strip) (t : Traced) → All IsOct pieces → All (λ b. HasInside b) pieces → HaveSameUnion pieces stacks
+    → IsSheet ss → AreCovering (in_nanometres stacks) ss → AreRings ss t.rings → pos t.area2 ≡ area2_of ss → AreOutlines pieces t
+outlining law pieces stacks ss t o i u s c r a =
+    law pieces ss t o i (record { order = record { shapes = s.shapes; order = s.order }; cover = covers_pieces pieces stacks ss u c }) r a
 
 pub if_ok : {A E : Type 0} (P Q : A → Type 0) (r : Result A E) → ((x : A) → P x → Q x) → IfOk r P → IfOk r Q
 if_ok P Q (Ok x) f h = f x h

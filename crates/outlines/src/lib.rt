@@ -17,12 +17,14 @@ ghost use Rattle.outlines.specs.Laws.{DrawableLaw, AllDrawableLaw, AllCoveredLaw
 
 mod threads;
 
+use any_strips::any_law;
 use fills::Fill;
 use grid_num::Memory;
 use octagon::Oct;
 pub use rings::{Ring, Traced};
 use sheet_trace::{cover_law, trace};
 use sheet_union::Sheet;
+use stacks::stacks;
 use std::alloc::Global;
 use std::sync::Arc;
 pub use threads::outlines;
@@ -78,15 +80,17 @@ fn of_fill(alloc: Global, fill: &Fill) -> Result<Traced, Memory>
     outline(alloc, fill.pieces.as_slice())
 }
 
-// The outlines of pieces.
+// The outlines of pieces, drawn from their stacks: these have the same points, and so the same outlines.
 fn outline(alloc: Global, pieces: &[Oct]) -> Result<Traced, Memory>
     requires { ArePiecesDrawable pieces.now }
     ensures outlines { IfOk result (λ t. AreOutlines pieces.now t) }
     ensures cover { IfOk result (λ t. IsCovering pieces.now t) }
     ensures range { IfOk result (λ t. All IsRingInRange t.rings) }
 {
-    let sheet = Sheet::of(alloc, pieces)?;
+    let fewer = stacks(alloc, pieces)?;
+    let sheet = Sheet::of(alloc, fewer.as_slice())?;
     let _ = sheet.strips();
     cover_law();
+    any_law();
     trace(alloc, &sheet)
 }

@@ -15,6 +15,8 @@ mod faults;
 #[cfg(test)]
 mod filled;
 #[cfg(test)]
+mod fills_read;
+#[cfg(test)]
 mod read_back;
 #[cfg(test)]
 mod refused;

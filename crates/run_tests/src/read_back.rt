@@ -13,7 +13,7 @@ const RULES: Rules = Rules {
 };
 
 /// What is read of a board's text.
-fn read(alloc: Global, text: &[u8]) -> Result<Result<Vec<Vec<Ring>>, FillsError>, Fail> {
+pub fn read(alloc: Global, text: &[u8]) -> Result<Result<Vec<Vec<Ring>>, FillsError>, Fail> {
     let tree = sexpr_text::read(alloc, text)?;
     let board = Board::read(alloc, text, &tree, RULES)?;
     Ok(read_fills(alloc, text, &tree, &board))
@@ -38,7 +38,7 @@ fn add_task(alloc: Global, out: &mut String, rings: &[Ring]) -> Result<(), Alloc
 }
 
 /// A line for each task.
-fn shown(alloc: Global, tasks: &[Vec<Ring>]) -> Result<String, AllocError> {
+pub fn shown(alloc: Global, tasks: &[Vec<Ring>]) -> Result<String, AllocError> {
     let mut out = String::from_str(alloc, "")?;
     for rings in tasks {
         add_task(alloc, &mut out, rings)?;

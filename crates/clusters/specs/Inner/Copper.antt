@@ -1,6 +1,5 @@
 -- The patches of nodes: one for each hull of each shape of their copper.
-use Rattle.std.specs.Prelude.{ℕ, suc, ◌+◌, ◌*◌, ℤ, pos, ◌+ℤ◌, List, [], ◌∷◌, ◌++◌, map, flat_map}
-use Rattle.std.specs.Int.RustNames.{unsigned_abs}
+use Rattle.std.specs.Prelude.{ℕ, suc, List, [], ◌∷◌, ◌++◌, map, flat_map}
 use Rattle.plane.specs.Plane.{Bounds}
 use Rattle.copper_shape.specs.Shapes.{Copper}
 use Rattle.board_language.specs.Board.{Board}
@@ -11,13 +10,9 @@ use Rattle.fill_rules.specs.Clusters.{node_net, node_layers, shapes_of}
 use Rattle.clusters.specs.declared.patch.Patch.{Patch}
 use Rattle.clusters.specs.declared.patches.Owner.{Owner}
 
--- the place of a y on the line on which nets lie one behind another
-abbrev pub place_of_net : ℕ → ℤ → ℕ
-place_of_net net y = net * 4294967296 + unsigned_abs (y +ℤ pos 2147483648)
-
 -- one hull of a shape of the owner's copper
 abbrev pub patch_of : Owner → Copper → Bounds → Patch
-patch_of o c h = record { node = o.node; net = o.net; layers = o.layers; from = place_of_net o.net h.y0; to = place_of_net o.net h.y1; shape = c; hull = h }
+patch_of o c h = record { node = o.node; net = o.net; layers = o.layers; shape = c; hull = h }
 
 -- all hulls of a shape
 abbrev pub shape_patches : Owner → Copper → List Patch

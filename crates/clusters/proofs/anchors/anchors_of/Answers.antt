@@ -1,14 +1,10 @@
-use Rattle.std.proofs.Common.{◌≡◌, sym, ◌∙◌, ap, map, length, arith, ◌<◌, List, ℕ}
-use Rattle.std.specs.Prelude.{◌++◌}
-use Rattle.std.proofs.lemmas.List.{length-map, get_or_read}
+use Rattle.std.proofs.Common.{ap, map, length, arith, ◌<◌, List}
+use Rattle.std.proofs.lemmas.List.{length-map}
 use Rattle.std.specs.Arc.{arc_value}
-use Rattle.grid_num.specs.declared.Point.{Point}
-use Rattle.ratsnest.specs.declared.Anchor.{Anchor}
 use Rattle.fill_rules.specs.Nodes as rules
 use Rattle.fill_rules.specs.Nodes.{nodes_of}
 use Rattle.fill_rules.specs.Clusters.{net_anchors}
 use Rattle.clusters.specs.Labelling.{node_of}
-use Rattle.clusters.proofs.Joined.{net_read}
 use Rattle.clusters.proofs.Ends.{anchors_step, anchors_stay, anchors_end}
 use Rattle.clusters.proofs.anchors.anchors_of.Goals.{then-index-net+in_ok-ends+in_ok-add_ends, else-index-net}
 use Rattle.clusters.proofs.anchors.anchors_of.Goals as goal

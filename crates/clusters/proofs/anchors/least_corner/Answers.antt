@@ -1,10 +1,7 @@
 use Rattle.std.proofs.Common.{refl, subst, arith, length, ◌<◌, List, []}
-use Rattle.std.specs.Prelude.{Option}
-use Rattle.grid_num.specs.declared.Point.{Point}
 use Rattle.plane.specs.Plane.{Bounds}
-use Rattle.fill_rules.specs.Clusters.{labelled}
 use Rattle.clusters.specs.Inner.Corners.{IsLeastCorner}
-use Rattle.clusters.proofs.Corners.{least_none, least_more, labelled_yes, labelled_no, labelled_all, least_step, least_stay}
+use Rattle.clusters.proofs.Corners.{least_none, labelled_all, least_step, least_stay}
 use Rattle.clusters.proofs.anchors.least_corner.Goals.{then-parts-k, else-parts-k}
 use Rattle.clusters.proofs.anchors.least_corner.Goals as goal
 

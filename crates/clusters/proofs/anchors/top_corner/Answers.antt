@@ -1,6 +1,4 @@
-use Rattle.std.proofs.Common.{◌≡◌, sym, ◌∙◌, ap, subst, arith}
-use Rattle.std.specs.Prelude.{◌-ℤ◌}
-use Rattle.std.proofs.lemmas.Int.{ints}
+use Rattle.std.proofs.Common.{sym, ◌∙◌, subst}
 use Rattle.grid_num.specs.declared.Point.{Point}
 use Rattle.plane.specs.Corners.{corners_of}
 use Rattle.clusters.specs.Inner.Corners.{IsLeastPoint}

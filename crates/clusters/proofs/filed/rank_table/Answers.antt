@@ -1,4 +1,4 @@
-use Rattle.std.proofs.Common.{arith, map, subst, sym}
+use Rattle.std.proofs.Common.{arith, map}
 use Rattle.std.proofs.lemmas.List.{length-map}
 use Rattle.std.specs.Arc.{arc_value}
 use Rattle.fill_rules.specs.Made.{no_fill}

@@ -1,4 +1,4 @@
-use Rattle.std.proofs.Common.{◌≡◌, sym, ◌∙◌, ap, map, get_or, arith, ◌<◌, ◌+◌, ◌*◌, length, List, ℕ}
+use Rattle.std.proofs.Common.{◌≡◌, ◌∙◌, ap, map, get_or, arith, ◌<◌, ◌+◌, ◌*◌, length, List, ℕ}
 use Rattle.std.proofs.lemmas.List.{get_or_default}
 use Rattle.board_language.specs.declared.board.Zone.{Zone}
 use Rattle.fill_rules.specs.Tasks.{task_at, no_zone}

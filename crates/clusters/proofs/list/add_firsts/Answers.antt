@@ -1,4 +1,4 @@
-use Rattle.std.proofs.Common.{refl, map}
+use Rattle.std.proofs.Common.{refl}
 use Rattle.fill_rules.specs.Tasks.{task_at}
 use Rattle.fill_rules.specs.Nodes.{part}
 use Rattle.clusters.specs.declared.Node.TheVariants.{Part}

@@ -1,4 +1,4 @@
-use Rattle.std.proofs.Common.{◌≡◌, map, arith, length, ◌<◌}
+use Rattle.std.proofs.Common.{map, arith, length, ◌<◌}
 use Rattle.std.proofs.lemmas.List.{get_or_read}
 use Rattle.std.specs.Arc.{arc_value}
 use Rattle.fill_rules.specs.Made.{no_fill}

@@ -1,10 +1,9 @@
-use Rattle.std.proofs.Common.{subst, sym, map, length, List}
+use Rattle.std.proofs.Common.{subst, sym, map, length}
 use Rattle.std.specs.List.{All}
 use Rattle.std.specs.Arc.{arc_value}
 use Rattle.std.proofs.lemmas.List.Elements.{All-append}
 use Rattle.fill_rules.specs.Nodes.{nodes_of}
 use Rattle.fill_rules.specs.Clusters.{node_net}
-use Rattle.clusters.specs.declared.patch.Patch.{Patch}
 use Rattle.clusters.specs.Labelling.{node_of}
 use Rattle.clusters.specs.Inner.Patches.{IsPatch}
 use Rattle.clusters.proofs.Joined.{patches_step, net_read}

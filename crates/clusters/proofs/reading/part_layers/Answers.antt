@@ -1,4 +1,4 @@
-use Rattle.std.proofs.Common.{◌≡◌, sym, ◌∙◌, subst, ap, map, arith, ◌<◌}
+use Rattle.std.proofs.Common.{sym, ◌∙◌, subst, map, arith, ◌<◌}
 use Rattle.std.proofs.lemmas.List.{length-map}
 use Rattle.std.specs.Arc.{arc_value}
 use Rattle.fill_rules.specs.Tasks.{Task}

@@ -1,4 +1,4 @@
-use Rattle.std.proofs.Common.{◌≡◌, sym, ◌∙◌, arith, length, ◌<◌}
+use Rattle.std.proofs.Common.{arith, length, ◌<◌}
 use Rattle.clusters.proofs.NodeParts.{copper_yes, copper_no, bare}
 use Rattle.clusters.proofs.reading.piece_shapes.Goals.{then-parts-k+in_ok-push, else-parts-k}
 use Rattle.clusters.proofs.reading.piece_shapes.Goals as goal

@@ -1,0 +1,5 @@
+pub mod Plain
+pub mod Reached
+pub mod Beyond
+pub mod Unions
+pub mod Lists
