@@ -1,44 +1,20 @@
 -- A new track or via stands behind all others.
-use Rattle.std.proofs.Common.{◌≡◌, ◌∙◌, refl, ap, sym, subst, ℕ, suc, ◌+◌, ◌-◌, ◌<◌, Bool, true, false, List, [], ◌∷◌, ◌++◌, map, length, codes, arith, append-nil, append_assoc, length-append, Option, None, Some}
-use Rattle.std.specs.Prelude.{filter, slice_get}
-use Rattle.std.specs.List.{list_all}
-use Rattle.std.proofs.lemmas.Slice.Eq.{bytes_eq-Decides}
+use Rattle.std.proofs.Common.{◌≡◌, ◌∙◌, refl, ap, sym, subst, ℕ, ◌+◌, ◌-◌, ◌<◌, false, List, [], ◌∷◌, ◌++◌, length, codes, arith, append-nil, append_assoc, length-append}
+use Rattle.std.specs.Prelude.{filter}
 use Rattle.sexpr_text.specs.Grammar.{is_space}
-use Rattle.sexpr_text.specs.Items.{Item, is_headed}
+use Rattle.sexpr_text.specs.Items.{Item}
 use Rattle.sexpr_text.specs.Trees.{IsRoot}
 use Rattle.text_splices.specs.Splice.{IsSplice}
-use Rattle.board_text.specs.Lists.{lists_of}
-use Rattle.board_text.specs.Fields.{is_text}
-use Rattle.board_text.specs.Items.{Context, context_of}
-use Rattle.board_text.specs.Things.{Placed, Root, OnBoard, Thing, thing_of, on_board, with_own, items_of_board}
-use Rattle.board_text.specs.Things as things
-use Rattle.board_text.specs.declared.stamped.Stamped.TheVariants as stamped
-use Rattle.board_language.specs.declared.board.Rules.{Rules}
-use Rattle.board_language.specs.Board.{Board}
-use Rattle.board_language.specs.Tracks.{track_of, via_of}
-use Rattle.board_language.specs.Offences.{stamp_as, stamp_of_placed}
-use Rattle.board_language.specs.Reading.{all_of, track_from, via_from, board_of, IsAccepted}
-use Rattle.board_language.specs.Stamps.{has_stamp, stamped_as, stamped_behind}
-use Rattle.fill_rules.specs.Edits.{unplaced, unplaced_via}
-use Rattle.text_shapes.specs.Shapes.{forest_shape}
 use Rattle.text_shapes.specs.Seen.{ItemSeen, item_seen}
 use Rattle.text_shapes.specs.Spellings.{Spelling, spelt_bytes, width, contents, IsTextSpelling}
-use Rattle.text_shapes.specs.Spellings.Spelling.{Ends, Named, Strung, Nested}
+use Rattle.text_shapes.specs.Spellings.Spelling.{Ends, Nested}
 use Rattle.text_shapes.proofs.Layouts.{all_both}
 use Rattle.text_shapes.proofs.Seen.{heads, heads_seen, groups}
 use Rattle.text_shapes.proofs.Spellings.{length-bytes}
-use Rattle.same_boards.specs.Contents.{Each}
-use Rattle.same_boards.proofs.Fields.{Same}
-use Rattle.edit_language.proofs.Stamps.{track_stamp, via_stamp}
-use Rattle.dirty_rules.specs.Dirty.{HasTrack, HasVia}
-use Rattle.edit_changes.proofs.Holes.{Hole, Into, plug, front, back, deep, plug_bytes, good_plug, IsFlat, list_seen, lists_before, lists_in, lists_plug, last_hole, last_white, last_is, last_flat, back_flat, deep_flat}
+use Rattle.edit_changes.proofs.Holes.{Hole, Into, plug, front, back, deep, plug_bytes, good_plug, list_seen, lists_before, lists_in, lists_plug, last_hole, last_white, last_is, last_flat, back_flat, deep_flat}
 use Rattle.edit_changes.proofs.Texts.{IsSpelt, spelt, root_contents, splice_is}
 use Rattle.edit_changes.proofs.Lists.{Lists, value_bytes}
-use Rattle.edit_changes.proofs.Lines.{stamp_seen, stamp_is}
-use Rattle.edit_changes.proofs.Patches.{AllFail, ArePatched, AreMatched, matched, items_of_lists, same_head, none_some}
-use Rattle.edit_changes.proofs.Boards.{GivesAlone, part_of_board, AreSpliced, AreBoardsSpliced, spliced_boards}
-use Rattle.edit_changes.proofs.Things.{track_thing, via_thing, gives_none, gives_track, gives_via}
-use Rattle.edit_changes.proofs.Bearers.{IsBearer, bearer_there}
+use Rattle.edit_changes.proofs.Patches.{ArePatched}
 
 -- a list with what stands before and behind it
 pub list_put : (w v z : List ℕ) (inner : Spelling) → spelt_bytes (Nested (w ++ v) inner (Ends z)) ≡ w ++ (v ++ (value_bytes (Lists inner) ++ z))

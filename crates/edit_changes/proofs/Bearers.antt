@@ -1,10 +1,10 @@
 -- What has a stamp in an accepted board, by one item that has it.
-use Rattle.std.proofs.Common.{◌≡◌, ◌∙◌, refl, ap, sym, subst, ℕ, Bool, true, false, not, cond, List, [], ◌∷◌, ◌++◌, take, length, Option, None, Some, option_map}
+use Rattle.std.proofs.Common.{◌≡◌, ◌∙◌, refl, ap, ℕ, Bool, true, false, not, cond, List, [], ◌∷◌, ◌++◌, take, Some, option_map}
 use Rattle.std.specs.Prelude.{find}
 use Rattle.std.specs.List.{prefix_len}
 use Rattle.sexpr_text.specs.Items.{Item}
 use Rattle.board_text.specs.Things.{Placed, items_of_board}
-use Rattle.board_text.specs.Items.{Context, context_of}
+use Rattle.board_text.specs.Items.{context_of}
 use Rattle.board_language.specs.Reading.{IsAccepted}
 use Rattle.board_language.specs.Stamps.{has_stamp, bearer_in, before_bearer, stamped_behind, stamp_of, bearer_of}
 use Rattle.edit_language.proofs.Stamps.{found}

@@ -1,17 +1,14 @@
 -- The boards of two texts whose lists are the same but for some in one place.
-use Rattle.std.proofs.Common.{◌≡◌, ◌∙◌, refl, ap, sym, subst, ℕ, zero, suc, ◌+◌, Bool, true, false, cond, List, [], ◌∷◌, ◌++◌, map, length, codes, Option, None, Some, append-nil, append_assoc}
+use Rattle.std.proofs.Common.{◌≡◌, ◌∙◌, refl, ap, sym, subst, ℕ, List, [], ◌∷◌, ◌++◌, map, Option, append-nil, append_assoc}
 use Rattle.std.specs.Prelude.{filter_map, flat_map}
 use Rattle.std.proofs.lemmas.List.Elements.{filter_map-append}
 use Rattle.sexpr_text.specs.Items.{Item}
-use Rattle.copper_shape.specs.declared.edge.Edge as edges
 use Rattle.board_text.specs.Lists.{lists_of}
 use Rattle.board_text.specs.Items.{Context, context_of}
 use Rattle.board_text.specs.Things.{Placed, Root, thing_of, with_own, items_of_board}
 use Rattle.board_language.specs.declared.board.Track.{Track}
 use Rattle.board_language.specs.declared.board.Via.{Via}
-use Rattle.board_language.specs.declared.board.Pad.{Pad}
 use Rattle.board_language.specs.declared.board.Zone.{Zone}
-use Rattle.board_language.specs.declared.board.Area.{Area}
 use Rattle.board_language.specs.declared.board.Rules.{Rules}
 use Rattle.board_language.specs.Board.{Board}
 use Rattle.board_language.specs.Reading.{all_of, track_from, via_from, pad_from, zone_from, area_from, edges_from, board_in, board_of}

@@ -1,5 +1,5 @@
 -- Each accepted edit changes the board as it says.
-use Rattle.std.proofs.Common.{◌≡◌, refl, sym, subst, ℕ, List, None}
+use Rattle.std.proofs.Common.{◌≡◌, sym, subst, ℕ, List, None}
 use Rattle.sexpr_text.specs.Items.{Item}
 use Rattle.sexpr_text.specs.Trees.{IsRoot}
 use Rattle.text_splices.specs.Splice.{IsSplice}

@@ -2,26 +2,24 @@
 use Rattle.std.proofs.Common.{◌≡◌, ◌∙◌, refl, ap, sym, subst, ℕ, suc, ◌+◌, ◌-◌, ◌<◌, Bool, true, false, List, [], ◌∷◌, ◌++◌, length, codes, arith, length-append, Option, None, Some, option_and_then}
 use Rattle.std.specs.Prelude.{pos, filter_map, find}
 use Rattle.std.proofs.lemmas.Bool.{false≢true}
-use Rattle.sexpr_text.specs.Items.{Item, is_headed, unescaped}
+use Rattle.sexpr_text.specs.Items.{Item, unescaped}
 use Rattle.sexpr_text.specs.Trees.{IsRoot}
 use Rattle.text_splices.specs.Splice.{IsSplice}
 use Rattle.grid_num.specs.Written.{mm_of}
 use Rattle.board_text.specs.Lists.{lists_of}
-use Rattle.board_text.specs.Fields.{list_of, list_in}
+use Rattle.board_text.specs.Fields.{list_of}
 use Rattle.board_text.specs.Numbers.{whole_number, length_of}
-use Rattle.board_text.specs.Items.{Context, context_of, size_of, tail_of}
+use Rattle.board_text.specs.Items.{context_of, size_of, tail_of}
 use Rattle.board_text.specs.Things.{Placed, OnBoard, Zone, on_board}
 use Rattle.board_text.specs.declared.stamped.Stamped.TheVariants as stamped
 use Rattle.board_language.specs.declared.board.Rules.{Rules}
-use Rattle.board_language.specs.Board.{Board}
 use Rattle.board_language.specs.Zones.{is_read_zone, clearance_list, span_or_none, spans_of, zone_of}
 use Rattle.board_language.specs.Reading.{board_of}
 use Rattle.board_language.specs.Stamps.{stamp_of, bearer_of}
 use Rattle.text_shapes.specs.Shapes.{forest_shape}
-use Rattle.text_shapes.specs.Shapes.Shape.{Over, Bare, Quoted, Inside}
-use Rattle.text_shapes.specs.Seen.{ItemSeen, item_seen, parts, is_named, sight}
-use Rattle.text_shapes.specs.Spellings.{Spelling, spelt_bytes, width, contents, IsTextSpelling}
-use Rattle.text_shapes.specs.Spellings.Spelling.{Ends, Named, Strung, Nested}
+use Rattle.text_shapes.specs.Seen.{ItemSeen, parts, is_named, sight}
+use Rattle.text_shapes.specs.Spellings.{Spelling, spelt_bytes, contents, IsTextSpelling}
+use Rattle.text_shapes.specs.Spellings.Spelling.{Ends, Nested}
 use Rattle.text_shapes.proofs.Seen.{heads, sub, sub_seen, in_seen, text_in, texts, value_in, value_seen}
 use Rattle.text_shapes.proofs.Spellings.{length-bytes}
 use Rattle.same_boards.specs.Contents.{without}
@@ -29,20 +27,20 @@ use Rattle.same_boards.specs.Alike.{unplaced_zone}
 use Rattle.same_boards.proofs.Fields.{value_two}
 use Rattle.edit_language.specs.declared.edit.Edit.TheVariants as edits
 use Rattle.edit_language.specs.Scripts.{IsSize}
-use Rattle.edit_language.specs.Splices.{list_text, length_list, behind_space, clearance_by, clearance_splice, splice_of}
+use Rattle.edit_language.specs.Splices.{list_text, length_list, clearance_by, clearance_splice, splice_of}
 use Rattle.edit_language.specs.Edited.{item_or, splice_in}
 use Rattle.dirty_rules.specs.Dirty.{HasZone}
-use Rattle.edit_changes.specs.Changes.{with_priority, with_clearance, IsZoneChanged}
+use Rattle.edit_changes.specs.Changes.{with_clearance, IsZoneChanged}
 use Rattle.edit_changes.proofs.Holes.{Hole, Here, PastName, PastString, PastList, Into, plug, under, plug_under, front, deep, IsFlat, deep_flat, list_seen, lists_before, lists_in, lists_plug, last_hole, last_white, last_is, last_flat, front_under, deep_under}
 use Rattle.edit_changes.proofs.Texts.{IsSpelt, spelt}
-use Rattle.edit_changes.proofs.Lists.{Value, Word, Lists, value_bytes, list_spelt, list_is, list_good}
+use Rattle.edit_changes.proofs.Lists.{Word, Lists, value_bytes, list_spelt, list_is, list_good}
 use Rattle.edit_changes.proofs.Lines.{length_good}
 use Rattle.edit_changes.proofs.Numbers.{size_read}
 use Rattle.edit_changes.proofs.Found.{IsListHole}
 use Rattle.edit_changes.proofs.InPlace.{hole_there, item_there, head_there}
 use Rattle.edit_changes.proofs.Patches.{AllFail, find_lists}
 use Rattle.edit_changes.proofs.Boards.{part_of_board}
-use Rattle.edit_changes.proofs.Standing.{IsListStamped, zone_stamped, zone_head}
+use Rattle.edit_changes.proofs.Standing.{zone_stamped, zone_head}
 use Rattle.edit_changes.proofs.ZoneRead.{AreOther, list_but, zone_but}
 use Rattle.edit_changes.proofs.Inside.{IsListIn, found_in, none_in, first_there}
 use Rattle.edit_changes.proofs.Inserts.{replaced, put_behind, replaced_good, behind_good, named_plug, last_width}

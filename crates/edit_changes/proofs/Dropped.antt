@@ -1,25 +1,24 @@
 -- A track or via that is dropped is gone from the board.
-use Rattle.std.proofs.Common.{◌≡◌, ◌∙◌, refl, ap, sym, subst, ℕ, suc, ◌+◌, ◌⊎◌, inl, inr, Bool, true, false, List, [], ◌∷◌, ◌++◌, map, length, codes, arith, append_assoc, Option, None, Some}
+use Rattle.std.proofs.Common.{◌≡◌, ◌∙◌, refl, ap, sym, subst, ℕ, ◌+◌, ◌⊎◌, inl, inr, true, false, List, [], ◌∷◌, ◌++◌, map, length, codes, append_assoc, Option, None, Some}
 use Rattle.std.specs.Prelude.{filter}
 use Rattle.std.proofs.lemmas.Option.{none-some}
 use Rattle.sexpr_text.specs.Items.{Item, is_headed}
 use Rattle.sexpr_text.specs.Trees.{IsRoot}
 use Rattle.text_splices.specs.Splice.{IsSplice}
 use Rattle.board_text.specs.Lists.{lists_of}
-use Rattle.board_text.specs.Items.{Context, context_of, span_of}
-use Rattle.board_text.specs.Things.{Placed, OnBoard, Track, Via, on_board}
+use Rattle.board_text.specs.Items.{context_of}
+use Rattle.board_text.specs.Things.{Placed, OnBoard}
 use Rattle.board_text.specs.declared.stamped.Stamped.{Stamped}
 use Rattle.board_text.specs.declared.stamped.Stamped.TheVariants as stamped
 use Rattle.board_language.specs.declared.board.Rules.{Rules}
-use Rattle.board_language.specs.Board.{Board}
 use Rattle.board_language.specs.Tracks.{track_of, via_of}
 use Rattle.board_language.specs.Reading.{all_of, track_from, via_from, board_of}
 use Rattle.board_language.specs.Stamps.{stamp_of, bearer_of}
 use Rattle.fill_rules.specs.Edits.{unplaced, unplaced_via}
-use Rattle.text_shapes.specs.Seen.{ItemSeen, item_seen, parts}
-use Rattle.text_shapes.specs.Spellings.{Spelling, spelt_bytes, contents, IsTextSpelling}
-use Rattle.text_shapes.specs.Spellings.Spelling.{Ends, Named, Strung, Nested}
-use Rattle.text_shapes.proofs.Seen.{heads, groups, is_group, length-map_is}
+use Rattle.text_shapes.specs.Seen.{item_seen, parts}
+use Rattle.text_shapes.specs.Spellings.{spelt_bytes, contents, IsTextSpelling}
+use Rattle.text_shapes.specs.Spellings.Spelling.{Nested}
+use Rattle.text_shapes.proofs.Seen.{groups, is_group, length-map_is}
 use Rattle.same_boards.specs.Alike.{unplaced_zone}
 use Rattle.same_boards.proofs.Roots.{other_headed}
 use Rattle.edit_language.specs.declared.edit.Edit.TheVariants as edits
@@ -27,7 +26,7 @@ use Rattle.edit_language.specs.Splices.{splice_of}
 use Rattle.edit_language.specs.Edited.{if_no_copper, stamp_refusal, refusal_in, item_or, splice_in}
 use Rattle.edit_language.proofs.Stamps.{track_stamp, via_stamp}
 use Rattle.edit_changes.specs.Changes.{left_without, IsTrackDropped, IsViaDropped}
-use Rattle.edit_changes.proofs.Holes.{Hole, Into, front, back, mend, mend_bytes, mend_good, mend_lists, behind_white, white_bytes, white_good, white_lists, list_seen, lists_before, lists_in}
+use Rattle.edit_changes.proofs.Holes.{front, back, mend, mend_bytes, mend_good, mend_lists, behind_white, white_bytes, white_good, white_lists, list_seen, lists_before, lists_in}
 use Rattle.edit_changes.proofs.Texts.{IsSpelt, spelt, root_contents}
 use Rattle.edit_changes.proofs.Found.{IsListHole}
 use Rattle.edit_changes.proofs.InPlace.{hole_there, place, place_good, instead, lists_there, front_seen, item_there, behind_there, head_there}
@@ -35,7 +34,7 @@ use Rattle.edit_changes.proofs.Patches.{ArePatched, AreMatched, matched_at, item
 use Rattle.edit_changes.proofs.Boards.{GivesAlone, part_of_board, AreSpliced, AreBoardsSpliced, spliced_boards, same_spliced}
 use Rattle.edit_changes.proofs.Things.{gives_none, gives_track, gives_via}
 use Rattle.edit_changes.proofs.NewCopper.{no_list, same_rest}
-use Rattle.edit_changes.proofs.Standing.{IsListStamped, track_stamped, via_stamped, track_head, via_head}
+use Rattle.edit_changes.proofs.Standing.{track_stamped, via_stamped, track_head, via_head}
 
 left_past : {X : Type 0} (xs ys : List X) (x : X) → left_without (length xs) (xs ++ x ∷ ys) ≡ xs ++ ys
 left_past [] ys x = refl

@@ -1,5 +1,5 @@
 -- Where the lists of a spelling stand.
-use Rattle.std.proofs.Common.{◌≡◌, ◌∙◌, refl, ap, sym, subst, ℕ, suc, ◌+◌, List, [], ◌∷◌, ◌++◌, length, arith, append_assoc, length-append}
+use Rattle.std.proofs.Common.{◌≡◌, ◌∙◌, refl, ap, sym, ℕ, suc, ◌+◌, List, [], ◌∷◌, ◌++◌, length, arith, length-append}
 use Rattle.std.specs.Prelude.{filter}
 use Rattle.sexpr_text.specs.Items.{Item, items_of}
 use Rattle.board_text.specs.Lists.{is_list}

@@ -1,13 +1,11 @@
 -- A spelling with a place in it where something else may stand.
-use Rattle.std.proofs.Common.{◌≡◌, ◌∙◌, refl, ap, sym, subst, ℕ, zero, suc, ◌+◌, ◌-◌, ◌<◌, Bool, true, false, ◌&&◌, List, [], ◌∷◌, ◌++◌, map, length, arith, append-nil, append_assoc, length-append}
+use Rattle.std.proofs.Common.{◌≡◌, ◌∙◌, refl, ap, sym, ℕ, suc, ◌+◌, ◌-◌, ◌<◌, true, List, [], ◌∷◌, ◌++◌, length, arith, append-nil, append_assoc, length-append}
 use Rattle.std.specs.Prelude.{filter}
 use Rattle.std.specs.List.{list_all}
-use Rattle.std.proofs.lemmas.Bool.{false≢true}
 use Rattle.sexpr_text.specs.Grammar.{is_space, is_word}
 use Rattle.text_shapes.specs.Shapes.{Shape}
-use Rattle.text_shapes.specs.Shapes.Shape.{Over, Bare, Quoted, Inside}
 use Rattle.text_shapes.specs.Seen.{ItemSeen, parts}
-use Rattle.text_shapes.specs.Spellings.{Spelling, spelt_bytes, contents, is_string_inside, is_apart, IsTextSpelling}
+use Rattle.text_shapes.specs.Spellings.{Spelling, spelt_bytes, contents, is_apart, IsTextSpelling}
 use Rattle.text_shapes.specs.Spellings.Spelling.{Ends, Named, Strung, Nested}
 use Rattle.text_shapes.proofs.Layouts.{all_both}
 use Rattle.text_shapes.proofs.Seen.{is_group}

@@ -1,20 +1,19 @@
 -- A list of a board in the board's text: what stands round it, and what comes out of a text in its place.
-use Rattle.std.proofs.Common.{◌≡◌, ◌∙◌, refl, ap, sym, subst, ℕ, suc, ◌+◌, ◌-◌, ◌<◌, Bool, true, false, List, [], ◌∷◌, ◌++◌, map, length, arith, append-nil, append_assoc, length-append}
+use Rattle.std.proofs.Common.{◌≡◌, ◌∙◌, refl, ap, sym, subst, ℕ, ◌+◌, List, [], ◌∷◌, ◌++◌, map, length, arith, append_assoc, length-append}
 use Rattle.std.specs.Prelude.{filter}
 use Rattle.sexpr_text.specs.Items.{Item, items_of, is_headed}
-use Rattle.sexpr_text.specs.Trees.{IsRoot}
 use Rattle.text_splices.specs.Splice.{IsSplice}
 use Rattle.board_text.specs.Lists.{is_list, lists_of}
-use Rattle.text_shapes.specs.Seen.{ItemSeen, item_seen, parts}
-use Rattle.text_shapes.specs.Spellings.{Spelling, spelt_bytes, width, contents, placed, IsTextSpelling}
-use Rattle.text_shapes.specs.Spellings.Spelling.{Ends, Named, Strung, Nested}
+use Rattle.text_shapes.specs.Seen.{item_seen, parts}
+use Rattle.text_shapes.specs.Spellings.{spelt_bytes, contents, IsTextSpelling}
+use Rattle.text_shapes.specs.Spellings.Spelling.{Ends, Nested}
 use Rattle.text_shapes.proofs.Seen.{heads, heads_seen, groups, groups_seen, is_group, length-map_is}
 use Rattle.text_shapes.proofs.Spellings.{length-bytes}
-use Rattle.edit_changes.proofs.Holes.{Hole, Into, plug, front, back, deep, plug_bytes, IsFlat, list_seen, lists_before, lists_in, lists_plug}
+use Rattle.edit_changes.proofs.Holes.{Hole, Into, plug, front, back, plug_bytes, list_seen, lists_before, lists_in, lists_plug}
 use Rattle.edit_changes.proofs.Texts.{IsSpelt, splice_is}
 use Rattle.edit_changes.proofs.Lists.{Lists, value_bytes}
 use Rattle.edit_changes.proofs.Found.{IsListHole, list_hole}
-use Rattle.edit_changes.proofs.Patches.{same_head, same_tail, none_some}
+use Rattle.edit_changes.proofs.Patches.{same_head, same_tail}
 use Rattle.edit_changes.proofs.Boards.{map_append}
 
 pub same_split : {X : Type 0} (xs ys us vs : List X) → length xs ≡ length us → xs ++ ys ≡ us ++ vs → (xs ≡ us) × (ys ≡ vs)

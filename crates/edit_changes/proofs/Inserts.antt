@@ -1,5 +1,5 @@
 -- Splices that put a list into a spelling: in place of another, behind white space, before white space.
-use Rattle.std.proofs.Common.{◌≡◌, ◌∙◌, refl, ap, sym, subst, ℕ, suc, ◌+◌, ◌-◌, ◌<◌, Bool, true, false, cond, ◌||◌, List, [], ◌∷◌, ◌++◌, length, codes, arith, append-nil, append_assoc, length-append}
+use Rattle.std.proofs.Common.{◌≡◌, ◌∙◌, refl, ap, sym, ℕ, ◌+◌, ◌-◌, ◌<◌, true, false, cond, ◌||◌, List, [], ◌∷◌, ◌++◌, length, codes, arith, append-nil, append_assoc, length-append}
 use Rattle.std.specs.List.{list_all}
 use Rattle.std.proofs.lemmas.Bool.{false≢true}
 use Rattle.sexpr_text.specs.Grammar.{is_space}
@@ -8,7 +8,7 @@ use Rattle.text_shapes.specs.Shapes.{Shape}
 use Rattle.text_shapes.specs.Shapes.Shape.{Over, Bare, Quoted, Inside}
 use Rattle.text_shapes.specs.Seen.{is_named}
 use Rattle.text_shapes.specs.Spellings.{Spelling, spelt_bytes, width, contents, IsTextSpelling}
-use Rattle.text_shapes.specs.Spellings.Spelling.{Ends, Named, Strung, Nested}
+use Rattle.text_shapes.specs.Spellings.Spelling.{Ends, Nested}
 use Rattle.text_shapes.proofs.Layouts.{all_both}
 use Rattle.text_shapes.proofs.Spellings.{length-bytes}
 use Rattle.same_boards.specs.Contents.{is_named_among, without}

@@ -1,13 +1,12 @@
 -- The first list of a head in a list whose spelling is known.
-use Rattle.std.proofs.Common.{◌≡◌, ◌∙◌, refl, ap, sym, subst, ℕ, suc, ◌+◌, Bool, true, false, cond, List, [], ◌∷◌, ◌++◌, map, length, Option, None, Some}
+use Rattle.std.proofs.Common.{◌≡◌, ◌∙◌, refl, ap, sym, subst, ℕ, ◌+◌, Bool, true, false, cond, List, [], ◌∷◌, ◌++◌, map, length, None, Some}
 use Rattle.std.specs.Prelude.{filter, find}
-use Rattle.std.proofs.lemmas.Bool.{false≢true}
 use Rattle.std.proofs.lemmas.Option.{none-some, same_Some}
 use Rattle.sexpr_text.specs.Grammar.{Forest}
 use Rattle.sexpr_text.specs.Grammar.Forest.{Nil, Word, Text, Group}
 use Rattle.sexpr_text.specs.Items.{Item, items_of, is_headed}
 use Rattle.sexpr_text.specs.declared.NodeKind.TheVariants as kinds
-use Rattle.board_text.specs.Lists.{is_list, lists_of}
+use Rattle.board_text.specs.Lists.{is_list}
 use Rattle.board_text.specs.Fields.{list_of}
 use Rattle.text_shapes.specs.Shapes.{forest_shape}
 use Rattle.text_shapes.specs.Seen.{ItemSeen, item_seen, parts, is_named}

@@ -8,6 +8,7 @@ pub mod Things
 pub mod Bearers
 pub mod Added
 pub mod NewCopper
+pub mod NewValues
 pub mod AddedLaws
 pub mod SameBut
 pub mod Found
@@ -24,3 +25,4 @@ pub mod Numbers
 pub mod Priorities
 pub mod Clearances
 pub mod Changes
+pub mod LeftAlone

@@ -1,8 +1,8 @@
 -- The lines of new tracks and vias, as spellings.
-use Rattle.std.proofs.Common.{◌≡◌, ◌∙◌, refl, ap, sym, subst, ℕ, suc, ◌+◌, ◌-◌, ◌<◌, ◌≤◌, ◌^◌, Bool, true, false, ◌&&◌, ◌||◌, not, ◌==◌, cond, nat_le, List, [], ◌∷◌, ◌++◌, map, length, codes, decimal, arith, Option, None, Some, option_map, option_and_then}
+use Rattle.std.proofs.Common.{◌≡◌, ◌∙◌, refl, ap, ℕ, ◌-◌, ◌<◌, Bool, true, false, ◌&&◌, ◌||◌, not, ◌==◌, cond, nat_le, List, [], ◌∷◌, ◌++◌, length, codes, decimal, arith, Option, Some, option_and_then}
 use Rattle.std.specs.Prelude.{find, ℤ, pos, if◌then◌else◌}
 use Rattle.std.specs.List.{list_all}
-use Rattle.std.proofs.lemmas.Bool.{and_parts, false≢true, true≢false}
+use Rattle.std.proofs.lemmas.Bool.{and_parts}
 use Rattle.std.proofs.lemmas.Bool.Decides.{nat_tests}
 use Rattle.std.proofs.lemmas.Int.{ints}
 use Rattle.grid_num.specs.declared.Point.{Point}
@@ -14,17 +14,16 @@ use Rattle.sexpr_text.specs.Items.{Item, unescaped}
 use Rattle.board_text.specs.Fields.{text_at}
 use Rattle.board_text.specs.Items.{is_stamp_list, stamp_list, stamp_in}
 use Rattle.text_shapes.specs.Seen.{ItemSeen, item_seen, parts}
-use Rattle.text_shapes.specs.Spellings.{Spelling, spelt_bytes, contents, is_string_inside, IsTextSpelling}
-use Rattle.text_shapes.specs.Spellings.Spelling.{Ends, Named, Strung, Nested}
+use Rattle.text_shapes.specs.Spellings.{Spelling, contents, is_string_inside, IsTextSpelling}
 use Rattle.text_shapes.proofs.Numbers.{mm_word, decimal_plain}
 use Rattle.text_shapes.proofs.Layouts.{word_of_plain, some_length}
 use Rattle.text_shapes.proofs.Seen.{same_or, find_map, then_map, said_at, said_seen, heads, heads_seen, parts_seen}
-use Rattle.edit_language.specs.Forms.{is_name_byte, is_script_name}
+use Rattle.edit_language.specs.Forms.{is_name_byte}
 use Rattle.edit_language.specs.Scripts.{IsPointInRange, IsSize, IsWholeNumber, IsName}
-use Rattle.edit_language.specs.Splices.{list_text, point_list, length_list, whole_list, between_quotes, on_own_line, has_uuids, stamp_text, track_line, via_line}
+use Rattle.edit_language.specs.Splices.{list_text, between_quotes, has_uuids, track_line, via_line}
 use Rattle.same_boards.proofs.Fields.{also}
 use Rattle.edit_changes.proofs.Holes.{list_seen}
-use Rattle.edit_changes.proofs.Lists.{Value, Word, Text, Lists, value_bytes, list_spelt, list_is, IsGoodValue, AreGoodValues, list_good}
+use Rattle.edit_changes.proofs.Lists.{Value, Word, Text, Lists, value_bytes, list_spelt, list_is, IsGoodValue, list_good}
 
 -- ---- words
 
@@ -49,13 +48,13 @@ named_inside (c ∷ t) h =
     let p = and_parts (is_name_byte c) (list_all is_name_byte t) h in
     ap (λ b. not b && is_string_inside (c == 92) t) (name_unquoted c p.0) ∙ ap (λ b. is_string_inside b t) (name_unescaped c p.0) ∙ named_inside t p.1
 
-named_same : (t : List ℕ) → list_all is_name_byte t ≡ true → unescaped false t ≡ t
+pub named_same : (t : List ℕ) → list_all is_name_byte t ≡ true → unescaped false t ≡ t
 named_same [] h = refl
 named_same (c ∷ t) h =
     let p = and_parts (is_name_byte c) (list_all is_name_byte t) h in
     ap (λ b. if b then unescaped true t else c ∷ unescaped false t) (name_unescaped c p.0) ∙ ap (λ z. c ∷ z) (named_same t p.1)
 
-name_bytes : (t : List ℕ) → IsName t → list_all is_name_byte t ≡ true
+pub name_bytes : (t : List ℕ) → IsName t → list_all is_name_byte t ≡ true
 name_bytes t h = (and_parts (list_all is_name_byte t) _ h).0
 
 name_some : (t : List ℕ) → IsName t → 0 < length t

@@ -1,11 +1,8 @@
 -- Lists as edits write them, as spellings.
-use Rattle.std.proofs.Common.{◌≡◌, ◌∙◌, refl, ap, sym, subst, ℕ, ◌+◌, ◌-◌, ◌<◌, ◌≤◌, Bool, true, false, ◌&&◌, not, ◌==◌, List, [], ◌∷◌, ◌++◌, map, length, codes, arith, append-nil, append_assoc}
+use Rattle.std.proofs.Common.{◌≡◌, ◌∙◌, refl, ap, sym, ℕ, ◌-◌, ◌<◌, true, false, List, [], ◌∷◌, ◌++◌, map, length, codes, append_assoc}
 use Rattle.std.specs.List.{list_all}
-use Rattle.std.proofs.lemmas.Bool.{and_parts, false≢true}
 use Rattle.sexpr_text.specs.Grammar.{is_word}
-use Rattle.text_shapes.specs.Shapes.{Shape}
-use Rattle.text_shapes.specs.Shapes.Shape.{Over, Bare, Quoted, Inside}
-use Rattle.text_shapes.specs.Spellings.{Spelling, spelt_bytes, contents, is_string_inside, is_apart, IsTextSpelling}
+use Rattle.text_shapes.specs.Spellings.{Spelling, spelt_bytes, is_string_inside, is_apart, IsTextSpelling}
 use Rattle.text_shapes.specs.Spellings.Spelling.{Ends, Named, Strung, Nested}
 use Rattle.edit_language.specs.Splices.{values_text, list_text}
 

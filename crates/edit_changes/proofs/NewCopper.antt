@@ -1,6 +1,6 @@
 -- The board with a new track or via.
-use Rattle.std.proofs.Common.{◌≡◌, ◌∙◌, refl, ap, sym, subst, ℕ, Bool, true, false, List, [], ◌∷◌, ◌++◌, map, length, codes, append-nil, append_assoc, Option, None, Some}
-use Rattle.std.specs.Prelude.{flat_map, slice_get}
+use Rattle.std.proofs.Common.{◌≡◌, ◌∙◌, refl, ap, sym, subst, ℕ, true, false, List, [], ◌∷◌, ◌++◌, map, length, codes, Option, Some}
+use Rattle.std.specs.Prelude.{flat_map}
 use Rattle.std.proofs.lemmas.Slice.Eq.{bytes_eq-Decides}
 use Rattle.sexpr_text.specs.Items.{Item, is_headed}
 use Rattle.sexpr_text.specs.Trees.{IsRoot}
@@ -9,7 +9,6 @@ use Rattle.board_text.specs.Fields.{is_text}
 use Rattle.board_text.specs.Items.{Context, context_of}
 use Rattle.board_text.specs.Things.{Placed, Root, OnBoard, Thing, thing_of, on_board, with_own, items_of_board}
 use Rattle.board_text.specs.Things as things
-use Rattle.board_text.specs.declared.stamped.Stamped.TheVariants as stamped
 use Rattle.board_language.specs.declared.board.Track.{Track}
 use Rattle.board_language.specs.declared.board.Via.{Via}
 use Rattle.board_language.specs.declared.board.Rules.{Rules}
@@ -17,7 +16,7 @@ use Rattle.board_language.specs.Board.{Board}
 use Rattle.board_language.specs.Tracks.{track_of, via_of}
 use Rattle.board_language.specs.Offences.{stamp_as}
 use Rattle.board_language.specs.Reading.{all_of, track_from, via_from, board_of, IsAccepted}
-use Rattle.board_language.specs.Stamps.{has_stamp, stamped_as, stamped_behind}
+use Rattle.board_language.specs.Stamps.{stamped_as, stamped_behind}
 use Rattle.fill_rules.specs.Edits.{unplaced, unplaced_via}
 use Rattle.text_shapes.specs.Seen.{ItemSeen, item_seen}
 use Rattle.text_shapes.proofs.Seen.{heads, heads_seen}
@@ -30,7 +29,7 @@ use Rattle.dirty_rules.specs.Dirty.{HasTrack, HasVia}
 use Rattle.edit_changes.specs.Changes.{HaveSameRest, IsTrackAdded, IsViaAdded}
 use Rattle.edit_changes.proofs.Lines.{stamp_seen, stamp_is}
 use Rattle.edit_changes.proofs.Patches.{ArePatched, AreMatched, matched, items_of_lists, same_head, same_tail, none_some}
-use Rattle.edit_changes.proofs.Boards.{flat_append, GivesAlone, part_of_board, AreSpliced, AreBoardsSpliced, spliced_boards, appended_is, same_spliced}
+use Rattle.edit_changes.proofs.Boards.{flat_append, GivesAlone, part_of_board, AreBoardsSpliced, spliced_boards, appended_is, same_spliced}
 use Rattle.edit_changes.proofs.Things.{items_alone, thing_there, track_thing, via_thing, gives_none, gives_track, gives_via}
 use Rattle.edit_changes.proofs.Bearers.{IsBearer, bearer_there}
 
@@ -120,14 +119,18 @@ module _ (text new : List ℕ) (root last : Item) (rules : Rules) (front : List 
           is = track_stamp new last rules stamp (length (all_of track_from (context_of new last) before)) (record { item = j.0; site = OnBoard }) k b.bearer;
         }
 
-    pub track_added : (stamp : List ℕ) → IsRoot new last → IsAccepted new last → stamp_seen x ≡ Some stamp → IsTrackAdded new rules stamp (board_of text root rules) (board_of new last rules)
-    track_added stamp l ok s =
+    pub track_added : (stamp : List ℕ) (named : List (List ℕ) → Track) → ((z : Item) → item_seen new z ≡ x → unplaced (track_of (context_of new last) z) ≡ named (board_of new last rules).layers)
+        → IsRoot new last → IsAccepted new last → stamp_seen x ≡ Some stamp → IsTrackAdded new rules stamp (named (board_of text root rules).layers) (board_of text root rules) (board_of new last rules)
+    track_added stamp named f l ok s =
         let a = tracks_spliced in
+        let n : unplaced (track_of (context_of new last) j.0) ≡ named (board_of text root rules).layers = f j.0 j.2 ∙ ap named (sym a.layers) in
         record {
           track = track_of (context_of new last) j.0;
           is = has_track stamp l ok s;
+          is_named = n;
           tracks = appended_is unplaced _ _ _ _ (unplaced (track_of (context_of new last) j.0)) a.tracks
-              (ap (λ z. map unplaced (part_of_board (context_of text root) z rules).tracks) ends);
+              (ap (λ z. map unplaced (part_of_board (context_of text root) z rules).tracks) ends)
+              ∙ ap (λ z. map unplaced (board_of text root rules).tracks ++ z ∷ []) n;
           vias = same_spliced unplaced_via _ _ _ _ a.vias;
           zones = same_spliced unplaced_zone _ _ _ _ a.zones;
           rest = same_rest _ _ _ _ _ _ _ _ _ _ a;
@@ -158,15 +161,19 @@ module _ (text new : List ℕ) (root last : Item) (rules : Rules) (front : List 
           is = via_stamp new last rules stamp (length (all_of via_from (context_of new last) before)) (record { item = j.0; site = OnBoard }) k b.bearer;
         }
 
-    pub via_added : (stamp : List ℕ) → IsRoot new last → IsAccepted new last → stamp_seen x ≡ Some stamp → IsViaAdded new rules stamp (board_of text root rules) (board_of new last rules)
-    via_added stamp l ok s =
+    pub via_added : (stamp : List ℕ) (named : List (List ℕ) → Via) → ((z : Item) → item_seen new z ≡ x → unplaced_via (via_of (context_of new last) z) ≡ named (board_of new last rules).layers)
+        → IsRoot new last → IsAccepted new last → stamp_seen x ≡ Some stamp → IsViaAdded new rules stamp (named (board_of text root rules).layers) (board_of text root rules) (board_of new last rules)
+    via_added stamp named f l ok s =
         let a = vias_spliced in
+        let n : unplaced_via (via_of (context_of new last) j.0) ≡ named (board_of text root rules).layers = f j.0 j.2 ∙ ap named (sym a.layers) in
         record {
           via = via_of (context_of new last) j.0;
           is = has_via stamp l ok s;
+          is_named = n;
           tracks = same_spliced unplaced _ _ _ _ a.tracks;
           vias = appended_is unplaced_via _ _ _ _ (unplaced_via (via_of (context_of new last) j.0)) a.vias
-              (ap (λ z. map unplaced_via (part_of_board (context_of text root) z rules).vias) ends);
+              (ap (λ z. map unplaced_via (part_of_board (context_of text root) z rules).vias) ends)
+              ∙ ap (λ z. map unplaced_via (board_of text root rules).vias ++ z ∷ []) n;
           zones = same_spliced unplaced_zone _ _ _ _ a.zones;
           rest = same_rest _ _ _ _ _ _ _ _ _ _ a;
         }

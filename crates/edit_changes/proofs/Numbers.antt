@@ -1,13 +1,13 @@
 -- Numbers that edits write are read as what they were written from.
-use Rattle.std.proofs.Common.{◌≡◌, ◌∙◌, refl, ap, sym, ℕ, suc, ◌<◌, ◌≤◌, ◌^◌, Bool, true, false, ◌&&◌, ◌||◌, not, ◌==◌, nat_lt, List, [], ◌∷◌, length, decimal, arith, Option, None, Some}
-use Rattle.std.specs.Prelude.{pos, if◌then◌else◌}
+use Rattle.std.proofs.Common.{◌≡◌, ◌∙◌, refl, ap, sym, ℕ, suc, ◌<◌, ◌^◌, Bool, true, false, ◌&&◌, ◌||◌, not, ◌==◌, nat_lt, List, [], ◌∷◌, length, decimal, arith, None, Some}
+use Rattle.std.specs.Prelude.{ℤ, pos, if◌then◌else◌}
 use Rattle.std.specs.Char.{IsAsciiDigit, is_ascii_digit}
 use Rattle.std.specs.List.{All, list_all}
 use Rattle.std.proofs.lemmas.Bool.Decides.{nat_tests}
 use Rattle.std.proofs.lemmas.Int.{ints}
+use Rattle.grid_num.specs.Length.{IsInRange}
 use Rattle.grid_num.specs.Spelling.{number}
 use Rattle.grid_num.specs.Written.{mm_of}
-use Rattle.grid_num.specs.declared.read.NumFault.{NumFault}
 use Rattle.grid_num.specs.declared.read.NumFault.TheVariants.{NotANumber, OutOfRange}
 use Rattle.grid_num.proofs.Digits.{decimal_digits, decimal_some, number_decimal}
 use Rattle.grid_num.proofs.Shortest.{mm_spells}
@@ -43,3 +43,6 @@ whole_read n l = ap (or_zero (number (decimal n)) 0) (decimal_fault n l) ∙ num
 
 pub size_read : (n : ℕ) → IsSize n → length_of (mm_of (pos n)) ≡ pos n
 size_read n l = sym (length_is (mm_of (pos n)) (pos n) (mm_spells (pos n) (omega (arith, ints, l), omega (arith, ints, l))).length_is)
+
+pub mm_read : (z : ℤ) → IsInRange z → length_of (mm_of z) ≡ z
+mm_read z r = sym (length_is (mm_of z) z (mm_spells z r).length_is)

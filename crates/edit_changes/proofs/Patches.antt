@@ -1,32 +1,23 @@
 -- Boards whose lists are the same but for some in one place.
-use Rattle.std.proofs.Common.{◌≡◌, ◌∙◌, refl, ap, sym, subst, ℕ, Bool, true, false, cond, List, [], ◌∷◌, ◌++◌, map, length, codes, Option, None, Some, is_some, option_map, append-nil, append_assoc}
-use Rattle.std.specs.Prelude.{filter, filter_map, flat_map, find}
-use Rattle.std.specs.List.{cons_option}
+use Rattle.std.proofs.Common.{◌≡◌, ◌∙◌, refl, ap, sym, ℕ, Bool, true, false, cond, List, [], ◌∷◌, ◌++◌, map, codes, Option, None, Some, is_some, option_map}
+use Rattle.std.specs.Prelude.{filter, flat_map, find}
 use Rattle.std.proofs.lemmas.Bool.{false≢true, true≢false}
-use Rattle.std.proofs.lemmas.List.Elements.{filter_map-append}
 use Rattle.sexpr_text.specs.Items.{Item, is_headed}
 use Rattle.board_text.specs.Lists.{lists_of, headed}
 use Rattle.board_text.specs.Fields.{list_of}
 use Rattle.board_text.specs.Numbers.{whole_number}
 use Rattle.board_text.specs.Layers.{is_copper, names_in, copper_layers}
-use Rattle.board_text.specs.Items.{Context, context_of, declared_net, declared_nets}
-use Rattle.board_text.specs.Things.{Placed, Root, OnBoard, InFootprint, thing_of, in_footprint, with_own, items_of_board}
-use Rattle.board_language.specs.declared.board.Rules.{Rules}
-use Rattle.board_language.specs.Board.{Board}
-use Rattle.board_language.specs.Reading.{all_of, track_from, via_from, pad_from, zone_from, area_from, edges_from, board_in, board_of}
-use Rattle.fill_rules.specs.Dirty.{unlined}
-use Rattle.fill_rules.specs.Edits.{unplaced, unplaced_via}
+use Rattle.board_text.specs.Items.{context_of, declared_net, declared_nets}
+use Rattle.board_text.specs.Things.{Placed, InFootprint, with_own}
 use Rattle.text_shapes.specs.Shapes.{Shape, forest_shape}
 use Rattle.text_shapes.specs.Shapes.Shape.{Over, Bare, Quoted, Inside}
 use Rattle.text_shapes.specs.Seen.{ItemSeen, item_seen, parts, is_named}
-use Rattle.text_shapes.proofs.Seen.{parts_seen, heads, groups, groups_seen, is_group, sub_seen, subs_seen}
+use Rattle.text_shapes.proofs.Seen.{heads, groups, groups_seen, is_group, sub_seen, subs_seen}
 use Rattle.same_boards.specs.Contents.{unfilled, AreSamePlaced, AreSameItems, Each}
-use Rattle.same_boards.specs.Alike.{unplaced_zone, AreAlike}
 use Rattle.same_boards.specs.Laws.{IsSameContext}
 use Rattle.same_boards.proofs.Each.{each_given, each_maps, each_flat_each, maps_each}
 use Rattle.same_boards.proofs.Fields.{Same, SameOption, same_inside, lists_two, said_two, headed_two}
 use Rattle.same_boards.proofs.Offending.{names_in_two}
-use Rattle.same_boards.proofs.Boards.{same_items}
 use Rattle.edit_changes.proofs.Holes.{list_seen}
 
 -- ---- lists

@@ -1,47 +1,44 @@
 -- A new priority of a zone.
-use Rattle.std.proofs.Common.{◌≡◌, ◌∙◌, refl, ap, sym, subst, ℕ, suc, ◌+◌, ◌<◌, Bool, true, false, List, [], ◌∷◌, ◌++◌, length, codes, decimal, arith, Option, None, Some, is_some}
+use Rattle.std.proofs.Common.{◌≡◌, ◌∙◌, refl, ap, sym, subst, ℕ, ◌+◌, ◌<◌, true, List, [], ◌∷◌, ◌++◌, length, codes, decimal, arith, Option, None, Some}
 use Rattle.std.specs.Prelude.{pos}
-use Rattle.std.proofs.lemmas.Bool.{false≢true, true≢false}
-use Rattle.std.proofs.lemmas.Option.{none-some, same_Some}
-use Rattle.sexpr_text.specs.Items.{Item, is_headed}
+use Rattle.std.proofs.lemmas.Option.{none-some}
+use Rattle.sexpr_text.specs.Items.{Item}
 use Rattle.sexpr_text.specs.Trees.{IsRoot}
 use Rattle.text_splices.specs.Splice.{IsSplice}
 use Rattle.board_text.specs.Lists.{lists_of}
-use Rattle.board_text.specs.Fields.{list_of, texts_of}
-use Rattle.board_text.specs.Numbers.{value_at, whole_number, length_of}
-use Rattle.board_text.specs.Items.{Context, context_of, size_of, tail_of, span_of}
+use Rattle.board_text.specs.Fields.{list_of}
+use Rattle.board_text.specs.Numbers.{whole_number, length_of}
+use Rattle.board_text.specs.Items.{context_of, size_of, tail_of}
 use Rattle.board_text.specs.Things.{Placed, OnBoard, Zone, on_board}
 use Rattle.board_text.specs.declared.stamped.Stamped.{Stamped}
 use Rattle.board_text.specs.declared.stamped.Stamped.TheVariants as stamped
-use Rattle.board_language.specs.declared.board.Zone as zones
 use Rattle.board_language.specs.declared.board.Rules.{Rules}
-use Rattle.board_language.specs.Board.{Board}
 use Rattle.board_language.specs.Zones.{is_read_zone, clearance_list, first_join, join_in, span_or_none, spans_of, zone_of}
 use Rattle.board_language.specs.Reading.{all_of, zone_from, board_of}
 use Rattle.board_language.specs.Stamps.{stamp_of, bearer_of}
 use Rattle.text_shapes.specs.Shapes.{forest_shape}
-use Rattle.text_shapes.specs.Seen.{ItemSeen, item_seen, parts, is_named, sight}
+use Rattle.text_shapes.specs.Seen.{ItemSeen, is_named, sight}
 use Rattle.text_shapes.specs.Spellings.{Spelling, contents, IsTextSpelling}
-use Rattle.text_shapes.proofs.Seen.{heads, value_in, value_seen, texts, texts_seen}
+use Rattle.text_shapes.proofs.Seen.{value_in, value_seen, texts, texts_seen}
 use Rattle.same_boards.specs.Contents.{without}
 use Rattle.same_boards.specs.Alike.{unplaced_zone}
 use Rattle.same_boards.proofs.Fields.{value_two}
 use Rattle.edit_language.specs.declared.edit.Edit.TheVariants as edits
 use Rattle.edit_language.specs.Scripts.{IsWholeNumber}
-use Rattle.edit_language.specs.Splices.{list_text, whole_list, behind_space, priority_by, priority_splice, splice_of}
+use Rattle.edit_language.specs.Splices.{whole_list, priority_by, priority_splice, splice_of}
 use Rattle.edit_language.specs.Edited.{if_no_zone, item_or, splice_in}
 use Rattle.dirty_rules.specs.Dirty.{HasZone}
-use Rattle.edit_changes.specs.Changes.{with_priority, with_clearance, IsZoneChanged}
-use Rattle.edit_changes.proofs.Holes.{Hole, plug, list_seen, lists_in}
+use Rattle.edit_changes.specs.Changes.{with_priority, IsZoneChanged}
+use Rattle.edit_changes.proofs.Holes.{plug}
 use Rattle.edit_changes.proofs.Texts.{IsSpelt, spelt}
-use Rattle.edit_changes.proofs.Lists.{Value, Word, Lists, value_bytes, list_spelt, list_is}
+use Rattle.edit_changes.proofs.Lists.{Word, Lists, value_bytes, list_spelt, list_is}
 use Rattle.edit_changes.proofs.Lines.{whole_good}
 use Rattle.edit_changes.proofs.Numbers.{whole_read}
 use Rattle.edit_changes.proofs.Found.{IsListHole}
 use Rattle.edit_changes.proofs.InPlace.{hole_there, item_there, head_there}
 use Rattle.edit_changes.proofs.Patches.{items_of_lists}
 use Rattle.edit_changes.proofs.Boards.{part_of_board}
-use Rattle.edit_changes.proofs.Standing.{IsListStamped, zone_stamped, zone_head}
+use Rattle.edit_changes.proofs.Standing.{zone_stamped, zone_head}
 use Rattle.edit_changes.proofs.ZoneRead.{AreOther, list_but, in_but, zone_but}
 use Rattle.edit_changes.proofs.Inside.{IsListIn, found_in, none_in}
 use Rattle.edit_changes.proofs.Zoned.{IsTextWith, IsSetTo, set_to, replaced_text, at_tail, put_to, put_text}

@@ -1,14 +1,12 @@
 -- Boards that a track or via more or less leads to are the same but for it.
-use Rattle.std.proofs.Common.{◌≡◌, ◌∙◌, refl, ap, sym, subst, ℕ, zero, suc, ◌⊎◌, inl, inr, List, [], ◌∷◌, ◌++◌, map, length, slice_get, get_or, Option, None, Some, option_map}
-use Rattle.std.proofs.lemmas.Option.{none-some, same_Some}
+use Rattle.std.proofs.Common.{◌≡◌, ◌∙◌, refl, ap, sym, subst, ℕ, zero, suc, ◌⊎◌, inl, inr, List, [], ◌∷◌, ◌++◌, map, length, slice_get, get_or, Some, option_map}
+use Rattle.std.proofs.lemmas.Option.{same_Some}
 use Rattle.classes.specs.Classes.{IsOneOf}
-use Rattle.board_language.specs.declared.board.Track.{Track}
-use Rattle.board_language.specs.declared.board.Via.{Via}
 use Rattle.board_language.specs.declared.board.Zone.{Zone}
 use Rattle.board_language.specs.Board.{Board}
-use Rattle.board_language.proofs.Members.{map_one_of, one_of_append, append_left, append_right}
+use Rattle.board_language.proofs.Members.{map_one_of, one_of_append, append_left}
 use Rattle.fill_rules.specs.Tasks.{settings_of, no_zone}
-use Rattle.fill_rules.specs.Edits.{unplaced, unplaced_via, counting, placing, AreAmong, AreSameBut}
+use Rattle.fill_rules.specs.Edits.{unplaced, unplaced_via, counting, placing, AreAmong}
 use Rattle.dirty_rules.specs.Dirty.{layers_of}
 use Rattle.text_shapes.proofs.Seen.{map_map, get_map}
 use Rattle.same_boards.specs.Alike.{unplaced_zone}
@@ -32,10 +30,10 @@ counting_same xs ys e =
     map_map unplaced_zone counting counting (λ z. refl) xs ∙ ap (map counting) e ∙ sym (map_map unplaced_zone counting counting (λ z. refl) ys)
 
 pub added_track : TrackAddedLaw
-added_track new rules stamp b d h = record {
+added_track new rules stamp named b d h = record {
   layers = ap length h.rest.layers;
-  tracks = among_front unplaced b.tracks d.tracks h.track h.tracks;
-  tracks_back = among_back unplaced b.tracks d.tracks h.track h.tracks;
+  tracks = among_front unplaced b.tracks d.tracks h.track (h.tracks ∙ ap (λ z. map unplaced b.tracks ++ z ∷ []) (sym h.is_named));
+  tracks_back = among_back unplaced b.tracks d.tracks h.track (h.tracks ∙ ap (λ z. map unplaced b.tracks ++ z ∷ []) (sym h.is_named));
   vias = among_same unplaced_via b.vias d.vias [] h.vias;
   vias_back = among_same unplaced_via d.vias b.vias [] (sym h.vias);
   pads = h.rest.pads;
@@ -46,12 +44,12 @@ added_track new rules stamp b d h = record {
 }
 
 pub added_via : ViaAddedLaw
-added_via new rules stamp b d h = record {
+added_via new rules stamp named b d h = record {
   layers = ap length h.rest.layers;
   tracks = among_same unplaced b.tracks d.tracks [] h.tracks;
   tracks_back = among_same unplaced d.tracks b.tracks [] (sym h.tracks);
-  vias = among_front unplaced_via b.vias d.vias h.via h.vias;
-  vias_back = among_back unplaced_via b.vias d.vias h.via h.vias;
+  vias = among_front unplaced_via b.vias d.vias h.via (h.vias ∙ ap (λ z. map unplaced_via b.vias ++ z ∷ []) (sym h.is_named));
+  vias_back = among_back unplaced_via b.vias d.vias h.via (h.vias ∙ ap (λ z. map unplaced_via b.vias ++ z ∷ []) (sym h.is_named));
   pads = h.rest.pads;
   zones = counting_same b.zones d.zones h.zones;
   areas = h.rest.areas;

@@ -1,14 +1,14 @@
 -- What has a stamp is a list of the board, and where it stands among them.
-use Rattle.std.proofs.Common.{◌≡◌, ◌∙◌, refl, ap, sym, subst, ℕ, suc, Bool, true, false, not, cond, ◌||◌, List, [], ◌∷◌, ◌++◌, map, take, length, codes, Option, None, Some, option_map}
-use Rattle.std.specs.Prelude.{find, flat_map, if◌then◌else◌}
+use Rattle.std.proofs.Common.{◌≡◌, ◌∙◌, refl, ap, sym, ℕ, Bool, true, false, not, cond, ◌||◌, List, [], ◌∷◌, ◌++◌, map, take, length, codes, Option, None, Some, option_map}
+use Rattle.std.specs.Prelude.{find, if◌then◌else◌}
 use Rattle.std.specs.List.{prefix_len}
-use Rattle.std.proofs.lemmas.Bool.{false≢true, true≢false}
+use Rattle.std.proofs.lemmas.Bool.{false≢true}
 use Rattle.std.proofs.lemmas.Option.{none-some, same_Some}
 use Rattle.sexpr_text.specs.Items.{Item, is_headed}
 use Rattle.board_text.specs.Lists.{lists_of}
 use Rattle.board_text.specs.Fields.{has_list, head_begins}
 use Rattle.board_text.specs.Items.{Context, context_of}
-use Rattle.board_text.specs.Things.{Placed, Site, Root, OnBoard, InFootprint, Thing, Board, Layers, Net, Track, CurvedTrack, Via, Footprint, RuleArea, Zone, Drawing, Pad, FootprintDrawing, FootprintZone, Other, is_picture, on_board, thing_of, in_footprint, with_own, items_of_board}
+use Rattle.board_text.specs.Things.{Placed, Site, Root, OnBoard, InFootprint, Thing, Layers, Net, Track, CurvedTrack, Via, Footprint, RuleArea, Zone, Drawing, Pad, FootprintDrawing, FootprintZone, Other, is_picture, on_board, thing_of, in_footprint, items_of_board}
 use Rattle.board_text.specs.declared.stamped.Stamped.{Stamped}
 use Rattle.board_text.specs.declared.stamped.Stamped.TheVariants as stamped
 use Rattle.board_language.specs.Zones.{is_read_zone}

@@ -1,5 +1,5 @@
 -- A text as the spelling of one list, and the text with another piece in a place of it.
-use Rattle.std.proofs.Common.{◌≡◌, ◌∙◌, refl, ap, sym, subst, ℕ, ◌+◌, ◌-◌, List, [], ◌∷◌, ◌++◌, length, slice_range, arith, append-nil, append_assoc}
+use Rattle.std.proofs.Common.{◌≡◌, ◌∙◌, refl, ap, sym, ℕ, ◌+◌, ◌-◌, List, [], ◌++◌, length, slice_range, arith, append-nil}
 use Rattle.std.proofs.lemmas.List.{take_all}
 use Rattle.sexpr_text.specs.declared.NodeKind.TheVariants as kinds
 use Rattle.sexpr_text.specs.Grammar.Forest.{Nil, Group}
@@ -10,7 +10,7 @@ use Rattle.text_splices.proofs.Splices.{one_law}
 use Rattle.text_shapes.specs.Shapes.{Shape, forest_shape}
 use Rattle.text_shapes.specs.Shapes.Shape.{Over, Bare, Quoted, Inside}
 use Rattle.text_shapes.specs.Spellings.{Spelling, spelt_bytes, width, contents, placed, IsTextSpelling}
-use Rattle.text_shapes.specs.Spellings.Spelling.{Ends, Named, Strung, Nested}
+use Rattle.text_shapes.specs.Spellings.Spelling.{Ends, Nested}
 use Rattle.text_shapes.proofs.Spellings.{Spells, spells, length-bytes}
 use Rattle.text_shapes.proofs.Spelled.{spell, spell_bytes, spell_contents, spell_placed, spell_good, length-piece}
 use Rattle.edit_language.proofs.OneRoot.{one_root}

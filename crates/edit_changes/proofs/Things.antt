@@ -1,17 +1,16 @@
 -- What lists of a board are, and what they give.
-use Rattle.std.proofs.Common.{◌≡◌, ◌∙◌, refl, ap, sym, subst, ℕ, Bool, true, false, cond, List, [], ◌∷◌, ◌++◌, map, length, codes, Option, None, Some}
-use Rattle.std.specs.Prelude.{filter_map, flat_map, if◌then◌else◌}
+use Rattle.std.proofs.Common.{◌≡◌, ◌∙◌, refl, ap, ℕ, Bool, true, false, cond, List, [], ◌∷◌, ◌++◌, map, codes, Option, None, Some}
+use Rattle.std.specs.Prelude.{flat_map, if◌then◌else◌}
 use Rattle.std.specs.List.{cons_option}
-use Rattle.std.proofs.lemmas.Bool.{false≢true, true≢false}
 use Rattle.sexpr_text.specs.Items.{Item, is_headed}
 use Rattle.board_text.specs.Lists.{lists_of}
-use Rattle.board_text.specs.Fields.{has_list, head_begins}
+use Rattle.board_text.specs.Fields.{has_list}
 use Rattle.board_text.specs.Items.{Context}
-use Rattle.board_text.specs.Things.{Placed, Site, Root, OnBoard, InFootprint, Thing, Board, Layers, Net, Track, CurvedTrack, Via, Footprint, RuleArea, Zone, Drawing, Pad, FootprintDrawing, FootprintZone, Other, is_picture, zone_thing, drawing_thing, on_board, of_footprint, thing_of}
+use Rattle.board_text.specs.Things.{OnBoard, InFootprint, Thing, Layers, Net, Track, CurvedTrack, Via, Footprint, RuleArea, Zone, Other, zone_thing, drawing_thing, on_board, thing_of}
 use Rattle.board_language.specs.declared.board.Rules.{Rules}
 use Rattle.board_language.specs.Tracks.{track_of, via_of}
 use Rattle.board_language.specs.Zones.{is_read_zone, zone_of}
-use Rattle.board_language.specs.Reading.{all_of, track_from, via_from, pad_from, zone_from, area_from, edges_from, board_in}
+use Rattle.board_language.specs.Reading.{all_of, track_from, via_from, pad_from, zone_from, area_from, edges_from}
 use Rattle.same_boards.proofs.Roots.{other_headed}
 use Rattle.edit_changes.proofs.Patches.{items_of_lists}
 use Rattle.edit_changes.proofs.Boards.{part_of_board, GivesAlone}

@@ -1,17 +1,16 @@
 -- The board in which one list of a zone is another.
-use Rattle.std.proofs.Common.{◌≡◌, ◌∙◌, refl, ap, sym, subst, ℕ, zero, suc, ◌+◌, Bool, true, false, List, [], ◌∷◌, ◌++◌, map, length, codes, Option, None, Some}
+use Rattle.std.proofs.Common.{◌≡◌, ◌∙◌, refl, ap, sym, subst, ℕ, ◌+◌, true, List, [], ◌∷◌, ◌++◌, map, length, codes, Some}
 use Rattle.std.specs.Prelude.{filter, find}
 use Rattle.sexpr_text.specs.Items.{Item, is_headed}
 use Rattle.sexpr_text.specs.Trees.{IsRoot}
 use Rattle.board_text.specs.Lists.{lists_of}
-use Rattle.board_text.specs.Fields.{list_of, has_list}
-use Rattle.board_text.specs.Items.{Context, context_of}
+use Rattle.board_text.specs.Fields.{list_of}
+use Rattle.board_text.specs.Items.{context_of}
 use Rattle.board_text.specs.Things.{Zone, on_board}
 use Rattle.board_language.specs.declared.board.Zone as zones
 use Rattle.board_language.specs.declared.board.Rules.{Rules}
-use Rattle.board_language.specs.Board.{Board}
 use Rattle.board_language.specs.Zones.{is_read_zone, zone_of}
-use Rattle.board_language.specs.Reading.{all_of, zone_from, board_of}
+use Rattle.board_language.specs.Reading.{board_of}
 use Rattle.fill_rules.specs.Edits.{unplaced, unplaced_via}
 use Rattle.text_shapes.specs.Shapes.{forest_shape}
 use Rattle.text_shapes.specs.Seen.{ItemSeen, item_seen, parts, sight}
@@ -28,7 +27,7 @@ use Rattle.edit_changes.proofs.Holes.{plug, list_seen, lists_before, lists_in, l
 use Rattle.edit_changes.proofs.Texts.{IsSpelt, root_contents}
 use Rattle.edit_changes.proofs.Found.{IsListHole}
 use Rattle.edit_changes.proofs.InPlace.{lists_there, front_seen, item_there, behind_there, head_there}
-use Rattle.edit_changes.proofs.Patches.{ArePatched, AreMatched, matched_at, context_same, items_of_lists}
+use Rattle.edit_changes.proofs.Patches.{ArePatched, AreMatched, matched_at, context_same}
 use Rattle.edit_changes.proofs.Boards.{GivesAlone, part_of_board, AreSpliced, AreBoardsSpliced, spliced_boards, same_spliced}
 use Rattle.edit_changes.proofs.Things.{gives_zone, zone_thing_is}
 use Rattle.edit_changes.proofs.NewCopper.{one_list, same_rest}

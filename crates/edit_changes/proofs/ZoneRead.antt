@@ -1,20 +1,20 @@
 -- What is read of a zone where a list in it may be another: all but what that list says.
-use Rattle.std.proofs.Common.{◌≡◌, ◌∙◌, refl, ap, sym, subst, ℕ, Bool, true, false, not, cond, ◌||◌, ◌&&◌, List, [], ◌∷◌, map, codes, Option, None, Some, is_some}
-use Rattle.std.specs.Prelude.{◌==◌, find, filter, pos, ℤ, if◌then◌else◌}
+use Rattle.std.proofs.Common.{◌≡◌, ◌∙◌, refl, ap, sym, ℕ, Bool, true, false, cond, ◌||◌, ◌&&◌, List, [], map, codes, Option, None, Some, is_some}
+use Rattle.std.specs.Prelude.{◌==◌, find, filter, pos}
 use Rattle.std.proofs.lemmas.Bool.{and_parts, false≢true, true≢false}
 use Rattle.grid_num.specs.declared.Point.{Point}
 use Rattle.sexpr_text.specs.Items.{Item, children_of, is_headed}
-use Rattle.board_text.specs.Lists.{is_list, lists_of}
+use Rattle.board_text.specs.Lists.{is_list}
 use Rattle.board_text.specs.Fields.{list_of, list_in, has_list}
 use Rattle.board_text.specs.Numbers.{length_of, whole_number, area_number}
-use Rattle.board_text.specs.Layers.{Name, has_copper, layer_set}
-use Rattle.board_text.specs.Items.{Context, point_at, net_of, size_of, whole_in}
+use Rattle.board_text.specs.Layers.{has_copper, layer_set}
+use Rattle.board_text.specs.Items.{Context, point_at, size_of}
 use Rattle.board_language.specs.declared.Join.{Join}
 use Rattle.board_language.specs.declared.IslandMode.{IslandMode}
 use Rattle.board_language.specs.declared.board.Zone.{Zone}
 use Rattle.board_language.specs.Zones.{layer_list, is_read_zone, points_list, corners_read, corner_in_units, clearance_list, gap_list, bridge_list, mode_list, clearance_in, thickness_in, gap_in, bridge_in, mode_in, island_area_list, islands_by, islands_in, join_in, zone_of}
 use Rattle.board_language.specs.Zones as zones
-use Rattle.text_shapes.specs.Shapes.{Shape, forest_shape}
+use Rattle.text_shapes.specs.Shapes.{forest_shape}
 use Rattle.text_shapes.specs.Seen.{ItemSeen, item_seen, parts}
 use Rattle.text_shapes.proofs.Seen.{find_map, parts_seen, heads, heads_seen, is_group}
 use Rattle.same_boards.specs.Contents.{without, Each}

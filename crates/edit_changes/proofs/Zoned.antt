@@ -1,25 +1,23 @@
 -- The text of a board in which one list of a zone is another.
-use Rattle.std.proofs.Common.{◌≡◌, ◌∙◌, refl, ap, sym, subst, ℕ, suc, ◌+◌, ◌-◌, ◌<◌, Bool, true, false, List, [], ◌∷◌, ◌++◌, map, length, codes, arith, append-nil, append_assoc, length-append, Option, None, Some}
+use Rattle.std.proofs.Common.{◌≡◌, ◌∙◌, refl, ap, sym, subst, ℕ, ◌+◌, ◌-◌, ◌<◌, true, List, [], ◌∷◌, ◌++◌, length, codes, arith, append-nil, append_assoc, length-append, Some}
 use Rattle.std.specs.Prelude.{find}
-use Rattle.std.specs.List.{list_all}
-use Rattle.sexpr_text.specs.Grammar.{is_space}
-use Rattle.sexpr_text.specs.Items.{Item, is_headed}
+use Rattle.sexpr_text.specs.Items.{Item}
 use Rattle.text_splices.specs.Splice.{IsSplice}
 use Rattle.board_text.specs.Items.{solid_end, tail_of}
-use Rattle.text_shapes.specs.Seen.{ItemSeen, item_seen, parts, is_named}
-use Rattle.text_shapes.specs.Spellings.{Spelling, spelt_bytes, width, contents, IsTextSpelling}
-use Rattle.text_shapes.specs.Spellings.Spelling.{Ends, Named, Strung, Nested}
+use Rattle.text_shapes.specs.Seen.{parts, is_named}
+use Rattle.text_shapes.specs.Spellings.{Spelling, spelt_bytes, contents, IsTextSpelling}
+use Rattle.text_shapes.specs.Spellings.Spelling.{Ends, Nested}
 use Rattle.text_shapes.proofs.Seen.{heads}
 use Rattle.text_shapes.proofs.Spellings.{length-bytes}
 use Rattle.same_boards.specs.Contents.{without}
-use Rattle.edit_changes.proofs.Holes.{Hole, Into, plug, under, plug_under, front, back, deep, plug_bytes, good_there, IsFlat, deep_flat, list_seen, lists_before, lists_in, lists_plug, last_hole, last_white, last_is, last_flat, front_under, deep_under}
+use Rattle.edit_changes.proofs.Holes.{Hole, Into, plug, under, plug_under, front, back, deep, plug_bytes, good_there, deep_flat, list_seen, lists_before, lists_in, lists_plug, last_hole, last_white, last_is, last_flat, front_under, deep_under}
 use Rattle.edit_changes.proofs.Texts.{IsSpelt}
 use Rattle.edit_changes.proofs.Lists.{Lists, value_bytes}
 use Rattle.edit_changes.proofs.Found.{IsListHole}
 use Rattle.edit_changes.proofs.InPlace.{place, whole, place_good, from_there}
 use Rattle.edit_changes.proofs.Patches.{AllFail, find_lists}
 use Rattle.edit_changes.proofs.Inside.{IsListIn, first_there}
-use Rattle.edit_changes.proofs.Inserts.{replaced, put_behind, put_before, replaced_good, behind_good, before_good, named_plug, without_plug, without_replaced, without_put, last_width}
+use Rattle.edit_changes.proofs.Inserts.{replaced, put_before, replaced_good, before_good, named_plug, without_plug, without_replaced, without_put, last_width}
 use Rattle.edit_changes.proofs.Tails.{EndsSolid, last_solid, opened_solid, solid_is}
 
 module _ (text : List ℕ) (root : Item) (p : IsSpelt text root) (xs ys : List Item) (i : Item) (h : IsListHole (length p.before + 1) p.inner xs i) where

@@ -1,6 +1,8 @@
 -- What an accepted edit changes of a board: a track or via more or less, or one zone's priority or clearance. All else is the
 -- same but for places in the file.
 use Rattle.std.specs.Prelude.{◌≡◌, ◌⊎◌, ℕ, zero, suc, List, [], ◌∷◌, ◌++◌, map}
+use Rattle.grid_num.specs.declared.Point.{Point}
+use Rattle.board_text.specs.Layers.{layer_number, layers_between}
 use Rattle.board_language.specs.declared.board.Track.{Track}
 use Rattle.board_language.specs.declared.board.Via.{Via}
 use Rattle.board_language.specs.declared.board.Zone.{Zone}
@@ -38,21 +40,33 @@ pub record HaveSameRest (b d : Board) : Type 0 where
 
 -- ---- tracks and vias that come
 
--- the track that has the stamp in the new text stands behind those of the old board
-pub record IsTrackAdded (new : List ℕ) (rules : Rules) (stamp : List ℕ) (b d : Board) : Type 0 where
+-- the track with these values, wherever it stands in the file, on a board with these layers
+abbrev pub track_named : List (List ℕ) → Point → Point → ℕ → List ℕ → ℕ → Track
+track_named layers from to width layer net =
+    record { from = from; to = to; width = width; layer = layer_number layers layer; net = net; span = record { from = 0; to = 0 }; line = 0 }
+
+-- the via with these values, on all layers from the one named to the other
+abbrev pub via_named : List (List ℕ) → Point → ℕ → List ℕ → List ℕ → ℕ → Via
+via_named layers at size top bottom net =
+    record { at = at; size = size; layers = layers_between layers top bottom; net = net; span = record { from = 0; to = 0 }; line = 0 }
+
+-- the track that has the stamp in the new text has the values named, and stands behind those of the old board
+pub record IsTrackAdded (new : List ℕ) (rules : Rules) (stamp : List ℕ) (named : Track) (b d : Board) : Type 0 where
   pub track : Track
   pub is : HasTrack new rules stamp track
-  pub tracks : map unplaced d.tracks ≡ map unplaced b.tracks ++ unplaced track ∷ []
+  pub is_named : unplaced track ≡ named
+  pub tracks : map unplaced d.tracks ≡ map unplaced b.tracks ++ named ∷ []
   pub vias : map unplaced_via b.vias ≡ map unplaced_via d.vias
   pub zones : map unplaced_zone b.zones ≡ map unplaced_zone d.zones
   pub rest : HaveSameRest b d
 
 -- and so does the via
-pub record IsViaAdded (new : List ℕ) (rules : Rules) (stamp : List ℕ) (b d : Board) : Type 0 where
+pub record IsViaAdded (new : List ℕ) (rules : Rules) (stamp : List ℕ) (named : Via) (b d : Board) : Type 0 where
   pub via : Via
   pub is : HasVia new rules stamp via
+  pub is_named : unplaced_via via ≡ named
   pub tracks : map unplaced b.tracks ≡ map unplaced d.tracks
-  pub vias : map unplaced_via d.vias ≡ map unplaced_via b.vias ++ unplaced_via via ∷ []
+  pub vias : map unplaced_via d.vias ≡ map unplaced_via b.vias ++ named ∷ []
   pub zones : map unplaced_zone b.zones ≡ map unplaced_zone d.zones
   pub rest : HaveSameRest b d
 
@@ -129,8 +143,8 @@ pub record IsZoneChanged (text : List ℕ) (stamp : List ℕ) (change : Zone →
 
 -- The edit, which makes the new text of the old one, leads from the one board to the other.
 unfoldable pub IsChange : List ℕ → List ℕ → Rules → Edit → Board → Board → Type 0
-IsChange text new rules (edits.Track from to width layer net stamp) b d = IsTrackAdded new rules stamp b d
-IsChange text new rules (edits.Via at size drill top bottom net stamp) b d = IsViaAdded new rules stamp b d
+IsChange text new rules (edits.Track from to width layer net stamp) b d = IsTrackAdded new rules stamp (track_named b.layers from to width layer net) b d
+IsChange text new rules (edits.Via at size drill top bottom net stamp) b d = IsViaAdded new rules stamp (via_named b.layers at size top bottom net) b d
 IsChange text new rules (edits.Drop stamp) b d = IsTrackDropped text rules stamp b d ⊎ IsViaDropped text rules stamp b d
 IsChange text new rules (edits.Priority stamp value) b d = IsZoneChanged text stamp (with_priority value) b d
 IsChange text new rules (edits.Clearance stamp value) b d = IsZoneChanged text stamp (with_clearance value) b d

@@ -3,7 +3,7 @@
 //! The crates above use the definitions of `specs/` and the laws that the functions here state; nothing here runs.
 #![tactic(auto)]
 
-ghost use Rattle.edit_changes.specs.Laws.{ChangeLaw, TrackAddedLaw, ViaAddedLaw, TrackDroppedLaw, ViaDroppedLaw, PrioritySetLaw, ClearanceSetLaw};
+ghost use Rattle.edit_changes.specs.Laws.{ChangeLaw, TrackAddedLaw, ViaAddedLaw, TrackDroppedLaw, ViaDroppedLaw, PrioritySetLaw, ClearanceSetLaw, LeftAloneLaw};
 
 /// An accepted edit leads from the board of the old text to that of the new one: a new track or via stands behind all others,
 /// one that is dropped is gone, and of a zone the priority or the clearance is the one that the edit names.
@@ -25,7 +25,12 @@ pub fn dropped_law()
 
 /// Boards of which a zone's priority or clearance is changed are the same but for the priority, or for the settings, of that
 /// zone.
-pub fn zone_law()
+pub fn setting_law()
     ensures priority { PrioritySetLaw }
     ensures clearance { ClearanceSetLaw }
+{}
+
+/// A task that an accepted edit doesn't dirty directly is untouched by it.
+pub fn left_alone_law()
+    ensures { LeftAloneLaw }
 {}

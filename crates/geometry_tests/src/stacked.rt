@@ -1,24 +1,23 @@
 // A fill's outline from its stacks against the outline of its pieces. Octagons are in units of 2 nm.
-use crate::shapes::{generated, oct_of, octagons};
+use crate::shapes::{generated, oct_of, octagons, sheet};
 use octagon::Oct;
 use scan_rows::Rows;
 use sheet_trace::trace;
-use sheet_union::Sheet;
 use stacks::{join, stacks};
 use std::alloc::Global;
 use std::test::Fail;
 
-// The octagon with the brush over it: 10 units along x and y, and 15 along the diagonals.
-fn with_brush(o: &Oct) -> [i32; 8] {
+// The bounds of the octagon, moved outward: by one number along x and y, and by another along the diagonals.
+fn grown(o: &Oct, straight: i64, slanted: i64) -> [i32; 8] {
     [
-        number(o.x0(), -10),
-        number(o.x1(), 10),
-        number(o.y0(), -10),
-        number(o.y1(), 10),
-        number(o.s0(), -15),
-        number(o.s1(), 15),
-        number(o.d0(), -15),
-        number(o.d1(), 15),
+        number(o.x0(), straight.wrapping_neg()),
+        number(o.x1(), straight),
+        number(o.y0(), straight.wrapping_neg()),
+        number(o.y1(), straight),
+        number(o.s0(), slanted.wrapping_neg()),
+        number(o.s1(), slanted),
+        number(o.d0(), slanted.wrapping_neg()),
+        number(o.d1(), slanted),
     ]
 }
 
@@ -56,7 +55,7 @@ fn pieces(alloc: Global) -> Result<Vec<[i32; 8]>, Fail> {
     }
     let mut all = Vec::new(alloc);
     for cell in &rows.bands().ok().ok_or("no memory")? {
-        all.push(with_brush(&cell.oct))?;
+        all.push(grown(&cell.oct, 10, 15))?;
     }
     Ok(all)
 }
@@ -65,12 +64,17 @@ fn pieces(alloc: Global) -> Result<Vec<[i32; 8]>, Fail> {
 #[test]
 fn stacks_are_drawn_as_their_pieces(rt: HostRuntime) -> Result<(), Fail> {
     let a = rt.alloc();
-    let octs = octagons(a, &pieces(a)?)?;
-    let fewer = stacks(a, &octs).ok().ok_or("no memory")?;
-    assert!(rt; octs.len() > 200);
-    assert!(rt; fewer.len() < octs.len().wrapping_sub(octs.len() / 4));
-    let plain = Sheet::of(a, &octs).ok().ok_or("no memory")?;
-    let drawn = Sheet::of(a, &fewer).ok().ok_or("no memory")?;
+    let all = pieces(a)?;
+    let octs = octagons(a, &all)?;
+    let joined = stacks(a, &octs).ok().ok_or("no memory")?;
+    let mut fewer = Vec::new(a);
+    'stacks: for stack in &joined {
+        fewer.push(grown(stack, 0, 0))?;
+    }
+    assert!(rt; all.len() > 200);
+    assert!(rt; fewer.len() < 180);
+    let plain = sheet(a, &all)?.ok_or("a sheet")?;
+    let drawn = sheet(a, &fewer)?.ok_or("a sheet")?;
     let wanted = trace(a, &plain).ok().ok_or("no memory")?;
     let found = trace(a, &drawn).ok().ok_or("no memory")?;
     assert_eq!(rt; found.area2, wanted.area2);

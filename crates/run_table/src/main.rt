@@ -1,7 +1,8 @@
 //! The program `run_table`: it runs commands over small boards in memory, and prints what each run says and complains.
 //! Nothing stands above it: what it prints is compared with `stdout`, which was worked out from the rules of runs.
 //! A line that begins with `== ` is a title. Behind it stand words of runs, each on a line of its own, and then a board: it is the
-//! file `a`. A line `show NAME` prints a file instead.
+//! file `a`. A line `show NAME` prints a file instead, and a line `again ONE OTHER` fills the file ONE into OTHER and says whether they
+//! are the same.
 #![tactic(auto)]
 
 ghost use Rattle.std.specs.Prelude.{◌≡◌, ◌<◌};
@@ -96,6 +97,29 @@ fn run_shown<R: Threads + Wait + Sync>(
     )
 }
 
+/// Whether both files are there, with the same bytes.
+fn are_same(desk: &MemoryDesk, one: &str, other: &str) -> bool {
+    desk.contents(one).is_some() && desk.contents(one) == desk.contents(other)
+}
+
+/// What is printed of a board that is filled again: the status, and whether its bytes are the same.
+fn again_shown<R: Threads + Wait + Sync>(
+    rt: &R,
+    alloc: Global,
+    names: &str,
+    desk: &mut MemoryDesk,
+) -> Result<String, AllocError> {
+    let (one, other) = names.split_once(' ').unwrap_or((names, ""));
+    let words = words_of(alloc, format!(in alloc; "fill {one} {other}")?.as_str())?;
+    let status = outcome::<R, Brand>(rt, alloc, &words, desk, Blank::new(1));
+    let said = if are_same(desk, one, other) {
+        "the same"
+    } else {
+        "another"
+    };
+    format!(in alloc; "again {names}: {status} {said}\n")
+}
+
 /// What is printed of a line.
 fn line_shown<R: Threads + Wait + Sync>(
     rt: &R,
@@ -103,11 +127,14 @@ fn line_shown<R: Threads + Wait + Sync>(
     line: &str,
     desk: &mut MemoryDesk,
 ) -> Result<String, AllocError> {
-    match line.strip_prefix("show ") {
-        Some(name) => format!(in alloc;
+    if let Some(name) = line.strip_prefix("show ") {
+        return format!(in alloc;
             "{line}:\n{}",
             text_of(desk.contents(name).unwrap_or(b"nothing\n"))
-        ),
+        );
+    }
+    match line.strip_prefix("again ") {
+        Some(names) => again_shown(rt, alloc, names, desk),
         None => run_shown(rt, alloc, line, desk),
     }
 }

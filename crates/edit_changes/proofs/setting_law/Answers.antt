@@ -1,5 +1,5 @@
 use Rattle.edit_changes.proofs.SameBut.{priority_set, clearance_set}
-use Rattle.edit_changes.proofs.zone_law.Goals as goal
+use Rattle.edit_changes.proofs.setting_law.Goals as goal
 
 pub returns-clause-priority : goal.returns-clause-priority
 returns-clause-priority c = priority_set

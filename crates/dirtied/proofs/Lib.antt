@@ -1,0 +1,5 @@
+pub mod Flags
+pub mod Ranks
+pub mod InReach
+pub mod Stamped
+pub mod Arms

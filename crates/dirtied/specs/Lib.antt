@@ -1,0 +1,2 @@
+pub mod Dirtied
+pub mod Inner

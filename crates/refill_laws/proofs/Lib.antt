@@ -1,0 +1,9 @@
+pub mod OldRanks
+pub mod Edits
+pub mod Chains
+pub mod Dirtied
+pub mod Walks
+pub mod Again
+pub mod Counts
+pub mod Steps
+pub mod Ends
