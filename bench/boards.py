@@ -5,11 +5,8 @@ Build the program first, by `rt run` in crates/zonefill; then `python3 bench/boa
 
 Boards of 10,000, 100,000 and 200,000 items, some 210 bytes each: half are tracks, and the rest vias, pads in footprints with their texts and
 lines, nets and edges. They have no zone, so they are read whole and written as they stand. Speed and exponent, from 10,000 to 100,000 items, are those of the time on the
-processor, which a busy machine disturbs less than the time that passes. Then the greatest boards: one item, outline or vertex more than is read,
-each of which must be refused where it stands. Last come boards with much of one kind in one list: 1,000,000 names of layers, 199,999 pads of one
-footprint, and an outline that is a comb of 20,000 vertices.
+processor, which a busy machine disturbs less than the time that passes. The greatest boards are tried by checks/limits.py.
 """
-import itertools
 import math
 import os
 import random
@@ -124,38 +121,6 @@ def timed(program, text):
     return best
 
 
-def line_of_last(text):
-    """The line of the last list but the board itself."""
-    return text.rstrip(")\n").count("\n") + 1
-
-
-def limits():
-    """Boards that hold as much as is read, and one thing more, with what is complained of each."""
-    area = '  (zone (keepout (copperpour not_allowed)) (layer "F.Cu") (polygon (pts (xy 0 0) (xy 1 0) (xy 1 1))))\n'
-    steps = "".join(f"(xy {n / 500:.3f} {n / 500:.3f})(xy {(n + 1) / 500:.3f} {n / 500:.3f})" for n in range(9_999))
-    zone = f'  (zone (layer "F.Cu") (polygon (pts {steps}(xy 19.998 19.998)(xy 0 19.998)%s)))\n)\n'
-    for name, text, fits in [
-        ("200,000 items", board(200_000), ""),
-        ("200,001 items", board(200_001), None),
-        ("2,000 outlines", HEAD + area * 2_000 + ")\n", ""),
-        ("2,001 outlines", HEAD + area * 2_001 + ")\n", None),
-        ("20,000 vertices", HEAD + zone % "", ""),
-        ("20,001 vertices", HEAD + zone % "(xy 0 1)", None),
-    ]:
-        yield name, text, f"zonefill: line {line_of_last(text)}: TooMany\n" if fits is None else fits
-
-
-def crowded():
-    """Boards with much of one kind in one list, with what is complained of each."""
-    names = "".join(f'(0 "L{n}" user)' for n in range(1_000_000))
-    pad = '(pad "1" smd rect (at 0 0) (size 1 1) (layers "F.Cu"))\n'
-    teeth = "".join(f"(xy {x / 50} 0)(xy {x / 50} 1)(xy {(x + 1) / 50} 1)(xy {(x + 1) / 50} 0)" for x in range(1, 9_998, 2))
-    comb = f"(xy 0 -1)(xy 0 0){teeth}(xy 199.98 0)(xy 199.98 -1)"
-    yield "1,000,000 names in layers", f"(kicad_pcb (version 20221018) (layers {names}))\n", ""
-    yield "199,999 pads in one footprint", f'{HEAD}(footprint "P" {pad * 199_999}(at 0 0)))\n', ""
-    yield "a comb of 20,000 vertices", f'{HEAD}(zone (layer "F.Cu") (polygon (pts {comb}))))\n', ""
-
-
 def main():
     program = os.path.abspath(sys.argv[1]) if len(sys.argv) > 1 else PROGRAM
     if not os.path.exists(program):
@@ -171,12 +136,6 @@ def main():
             f"status {status}  {complaint.strip()}"
         )
     print(f"time grows from 10,000 to 100,000 items as n^{math.log10(rows[1] / rows[0]):.2f}")
-    bad = 0
-    for name, text, wanted in itertools.chain(limits(), crowded()):
-        seconds, _, _, _, complaint = timed(program, text)
-        bad += complaint != wanted
-        print(f"{name:29} {seconds:6.2f} s  {complaint.strip()}{'' if complaint == wanted else ', and not ' + wanted.strip()}")
-    sys.exit(1 if bad else 0)
 
 
 if __name__ == "__main__":

@@ -1,5 +1,5 @@
 #!/usr/bin/env python3
-"""Who spends the gate's time: runs `rt ci`, and tells what each crate's proof, tests and must-fail edits took.
+"""Who spends the gate's time: runs `rt ci`, and tells what each crate's proof, tests, building and must-fail edits took.
 
     python3 bench/gate.py [NAME..]         runs `rt ci` (of these crates alone, where some are named) and prints its lines as they come,
                                            then the table; out/gate.log keeps what was measured
@@ -9,9 +9,10 @@
                                            what all of it took
 
 Times are processor minutes, sampled twice a second from /proc: of the checks in a crate's own folder (its proof, or with `--test` its
-tests), and of those in a copy of it (its edits). Compiling and running aren't counted, nor what takes less than half a second. A crate
-that an earlier run on this machine has passed takes nothing. The chain is the one of crates that stand on each other whose proofs
-take longest: with processors without end a run would still take so long. It ends with the status of `rt ci`.
+tests), and of those in a copy of it (its edits). Built is what a program takes that was checked before, and what a check of tests takes
+besides its jobs, which is mostly the building of them. Running isn't counted, nor what takes less than half a second. A crate that an
+earlier run on this machine has passed takes nothing. The chain is the one of crates that stand on each other whose proofs take longest:
+with processors without end a run would still take so long, and with two no less than half of all. It ends with the status of `rt ci`.
 """
 import argparse
 import collections
@@ -23,7 +24,7 @@ import threading
 import time
 
 TICK = os.sysconf('SC_CLK_TCK')
-KINDS = 'proof', 'tests', 'edits'
+KINDS = 'proof', 'tests', 'built', 'edits'
 
 
 def words_of(pid):
@@ -46,13 +47,14 @@ def seconds_of(pid):
 
 
 def below(root):
-    """Returns the processes below one, by their numbers and when they began (a number comes again), each with its seconds."""
+    """Returns the processes below one, by their numbers and when they began (a number comes again), each with its seconds and its
+    parent's number."""
     found, parents = {}, {}
     for name in os.listdir('/proc'):
         it = seconds_of(name) if name.isdigit() else None
         if it:
             parents[int(name)], began, seconds = it
-            found[int(name), began] = seconds
+            found[int(name), began] = seconds, parents[int(name)]
     def is_below(pid):
         while pid > 1 and pid != root:
             pid = parents.get(pid, 0)
@@ -72,6 +74,8 @@ def crate_and_kind(pid):
         return None
     if 'rt-edit' in folder:
         return crate, 'edits'
+    if '--crate-checked' in words:
+        return crate, 'built'
     return crate, 'tests' if '--test' in words else 'proof'
 
 
@@ -95,14 +99,24 @@ class Run:
         with open(self.log, 'w') as file:
             json.dump(self.record(), file)
 
+    def part_builders(self, running):
+        """Counts as built what a check of tests takes that has jobs, since those prove and it builds."""
+        tests = {key[0]: key for key in running if key in self.taken and self.taken[key][0][1] == 'tests'}
+        for key, (_, parent) in running.items():
+            if key[0] in tests and parent in tests:
+                (crate, _), seconds = self.taken[tests[parent]]
+                self.taken[tests[parent]] = (crate, 'built'), seconds
+
     def sample(self):
         """Notes times until the run ends."""
         turn = 0
         while not self.ended.wait(0.5):
-            for key, seconds in below(self.process.pid).items():
+            running = below(self.process.pid)
+            for key, (seconds, _) in running.items():
                 whose = self.taken[key][0] if key in self.taken else crate_and_kind(key[0])
                 if whose:
                     self.taken[key] = whose, seconds
+            self.part_builders(running)
             turn += 1
             if turn % 60 == 0:
                 self.keep()
@@ -172,6 +186,7 @@ def table(record):
     print(f'\nthe longest chain of proofs takes {minutes:.1f} processor minutes: {", ".join(names)}')
     count, names = longest(crates, lambda it: 1)
     print(f'the longest chain has {count} crates: {", ".join(names)}')
+    print(f'two processors take {max(sum(sums.values()) / 2, minutes):.0f} minutes at least, with nothing beside the run')
     print(f'{record["minutes"]:.0f} minutes by the clock; last line: {record["last"]}')
 
 

@@ -20,7 +20,7 @@ use Rattle.edit_language.proofs.Written.{written}
 use Rattle.edit_language.proofs.Spells.{spell_law}
 use Rattle.board_edit.specs.declared.error.EditError.{EditError}
 use Rattle.board_edit.specs.declared.error.EditError.TheVariants.{Memory, Bad}
-use Rattle.board_edit.specs.Edited.{IsReadOf, IsRefusal}
+use Rattle.board_edit.specs.Edited.{IsReadOf, IsEditRefusal}
 use Rattle.board_edit.specs.Inner.Boards.{IsBoardRefusal}
 use Rattle.board_edit.proofs.Boards.{refusal_is}
 
@@ -78,7 +78,7 @@ spelt text edit new w p = spell_law text edit new (written edit w) p
 pub faultless : (text : List ℕ) (root : Item) (at : ℕ) (kind : TextKind) → IsRoot text root → IsFault text at kind → ⊥
 faultless text root at kind r f = no_fault text (Group root.from root.to root.inner Nil) at kind r.spelt f
 
-pub breaks : (text : List ℕ) (edit : Edit) (new : List ℕ) (e : EditError) → IsPut text edit new → IsBoardRefusal new e → IsRefusal text edit e
+pub breaks : (text : List ℕ) (edit : Edit) (new : List ℕ) (e : EditError) → IsPut text edit new → IsBoardRefusal new e → IsEditRefusal text edit e
 unfolding IsEditRefused
 breaks text edit new Memory p b = tt
 breaks text edit new (Bad (Breaks offence)) p b = record { new = new; put = p; root = b.root; is_root = b.is_root; offends = b.offends }

@@ -19,6 +19,6 @@ pub record IsReadOf (text : List ℕ) (b : Whole) : Type 0 where
   pub board_is : b ≡ whole_board text root rules
 
 -- want of memory, or why the edit of this text is refused
-abbrev pub IsRefusal : List ℕ → Edit → EditError → Type 0
-IsRefusal text edit Memory = Unit {0}
-IsRefusal text edit (Bad refusal) = IsEditRefused text edit refusal
+abbrev pub IsEditRefusal : List ℕ → Edit → EditError → Type 0
+IsEditRefusal text edit Memory = Unit {0}
+IsEditRefusal text edit (Bad refusal) = IsEditRefused text edit refusal

@@ -4,7 +4,7 @@ ghost use Rattle.sexpr_text.specs.Items.{Item};
 ghost use Rattle.sexpr_text.specs.Trees.{IsRoot};
 ghost use Rattle.edit_language.specs.Scripts.{IsWritten};
 ghost use Rattle.edit_language.specs.Edited.{IsAcceptedEdit};
-ghost use Rattle.board_edit.specs.Edited.{IsReadOf, IsRefusal};
+ghost use Rattle.board_edit.specs.Edited.{IsReadOf, IsEditRefusal};
 ghost use Rattle.board_edit.specs.Inner.Boards.{IsBoardRefusal};
 
 use crate::error::EditError;
@@ -51,7 +51,7 @@ pub fn edited(
     ensures text { IfOk result (λ new. IsAcceptedEdit text.now edit.now new.0.items) }
     ensures board { IfOk result (λ new. IsReadOf new.0.items new.1) }
     ensures rules { IfOk result (λ new. new.1.board.rules ≡ board.now.board.rules) }
-    ensures refused { IfErr result (IsRefusal text.now edit.now) }
+    ensures refused { IfErr result (IsEditRefusal text.now edit.now) }
 {
     let thing = board.stamp_of(stamp_of(edit));
     if let Some(refusal) = stamp_refusal(edit, thing) {

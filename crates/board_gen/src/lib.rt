@@ -1,6 +1,6 @@
 //! Boards made by rule, to try and to time the filler on: up to 40,000 vias and tracks between two zones.
 //! The layer above may use that `generate` gives the text that the definition `generated` gives, byte for byte.
-//! Lengths are nanometres. The rule is in docs/GENERATOR.md.
+//! Lengths are nanometres. The rule is in docs/rules/generator.md.
 #![tactic(auto)]
 
 mod add;

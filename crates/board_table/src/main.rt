@@ -1,5 +1,6 @@
 //! The program `board_table`: it reads a file of small boards, and says of each what `Board::read` gives.
 //! Nothing stands above it: what it says is compared with `stdout`, which was written from the rules of the board.
+//! In a board the line `3 times (net 1)` stands for three lines `(net 1)`; places are counted in the whole text.
 //! Lengths are in nanometres, corners of outlines in units of 2 nm, shapes in halves of a nanometre, places in bytes.
 #![tactic(auto)]
 
@@ -7,6 +8,7 @@ mod add;
 mod cases;
 mod copper;
 mod outlines;
+mod repeats;
 mod saying;
 mod table;
 mod verdict;

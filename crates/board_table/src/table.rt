@@ -3,8 +3,9 @@ use crate::add::add;
 use crate::cases::{Case, cases};
 use crate::copper::{add_pad, add_track, add_via};
 use crate::outlines::{add_area, add_edge, add_zone};
+use crate::repeats::full_text;
 use crate::verdict::{Verdict, verdict_on};
-use board_model::Board;
+use board_model::{Board, Name};
 use grid_num::Memory;
 use std::alloc::Global;
 
@@ -49,6 +50,7 @@ fn add_stamps(
 fn add_counts(alloc: Global, out: &mut Vec<u8>, board: &Board) -> Result<(), Memory> {
     add(out, b"layers")?;
     'layers: for layer in board.layers() {
+        is_send_and_sync::<Name>(layer);
         add(out, b" ")?;
         add(out, layer.bytes())?;
     }
@@ -96,6 +98,9 @@ fn add_outlines(alloc: Global, out: &mut Vec<u8>, board: &Board) -> Result<(), M
     Ok(())
 }
 
+/// Boards and names are sent to other threads and shared with them: no clause says so, and that this compiles shows it.
+fn is_send_and_sync<T: Send + Sync>(_: &T) {}
+
 /// Adds what a text is: its fault, the first offence of its board, or the board.
 fn add_verdict(
     alloc: Global,
@@ -116,6 +121,7 @@ fn add_verdict(
             add(out, text.as_bytes())
         }
         Verdict::Read(board) => {
+            is_send_and_sync::<Board>(board);
             add_counts(alloc, out, board)?;
             add_copper(alloc, out, board)?;
             add_outlines(alloc, out, board)?;
@@ -129,7 +135,8 @@ fn add_case(alloc: Global, out: &mut Vec<u8>, case: &Case<'_>) -> Result<(), Mem
     let title = title_text(case.title);
     add(out, title)?;
     add(out, b": ")?;
-    let verdict = verdict_on(alloc, case.board)?;
+    let text = full_text(alloc, case.board)?;
+    let verdict = verdict_on(alloc, &text)?;
     add_verdict(alloc, out, &verdict, asked(title))
 }
 

@@ -13,8 +13,8 @@ use Rattle.islands.proofs.Members.{one_front, one_last, last_split, none_in, one
 use Rattle.bins.specs.Meeting.{AreThoseMeeting}
 use Rattle.spreading.specs.Labels.{AreThoseLinked}
 use Rattle.clusters.specs.declared.patch.Patch.{Patch}
-use Rattle.clusters.specs.Inner.Patches.{LeadsTo, AreNodesLinkedBy}
-use Rattle.clusters.specs.Inner.Links.{hulls_of, LeadsInto, AreAdded, IsWay, AreGathered}
+use Rattle.clusters.specs.Inner.Patches.{IsPatchNeighbour, AreNodesLinkedBy}
+use Rattle.clusters.specs.Inner.Links.{patch_hulls, LeadsInto, AreAdded, IsWayByPatches, AreGathered}
 use Rattle.clusters.proofs.Links.{leads_of, linked_of}
 
 -- ---- patches by their places
@@ -27,11 +27,11 @@ place_in ps p i = let a = one_place p ps i in (a.0, slice_get-get_or ps a.0 p a.
 same_item : (ps : List Patch) (k : ℕ) (p q : Patch) → slice_get ps k ≡ Some p → slice_get ps k ≡ Some q → p ≡ q
 same_item ps k p q e f = same_Some p q (sym e ∙ f)
 
-hull_there : (ps : List Patch) (k : ℕ) (p : Patch) → slice_get ps k ≡ Some p → slice_get (hulls_of ps) k ≡ Some p.hull
+hull_there : (ps : List Patch) (k : ℕ) (p : Patch) → slice_get ps k ≡ Some p → slice_get (patch_hulls ps) k ≡ Some p.hull
 hull_there ps k p e =
     let l = slice_get_within ps k p e in
     let n = length-map ps (λ (q : Patch). q.hull) in
-    slice_get-get_or (hulls_of ps) k p.hull (omega (arith, l, n))
+    slice_get-get_or (patch_hulls ps) k p.hull (omega (arith, l, n))
     ∙ ap (λ (h : Bounds). Some h) (get_or-map (λ (q : Patch). q.hull) ps k p p.hull l ∙ ap (λ (q : Patch). q.hull) (get_or_from_slice_get ps k p p e))
 
 -- ---- what is added for one patch
@@ -42,20 +42,20 @@ module _ (ps : List Patch) (p : Patch) (seen : List ℕ) (x : ℕ) (q : Patch) (
   led_on : (y : ℕ) → LeadsInto ps p seen y → LeadsInto ps p (seen ++ (x ∷ [])) y
   led_on y w = record { place = w.place; other = w.other; one = one_front w.place seen (x ∷ []) w.one; there = w.there; on = w.on; to = w.to }
 
-  led_back : (y : ℕ) → LeadsInto ps p (seen ++ (x ∷ [])) y → LeadsInto ps p seen y ⊎ (LeadsTo p q × (q.node ≡ y))
+  led_back : (y : ℕ) → LeadsInto ps p (seen ++ (x ∷ [])) y → LeadsInto ps p seen y ⊎ (IsPatchNeighbour p q × (q.node ≡ y))
   led_back y w = elim (last_split w.place x seen w.one) [
     | inl i ↦ inl (record { place = w.place; other = w.other; one = i; there = w.there; on = w.on; to = w.to })
     | inr e ↦ (let s : w.other ≡ q = same_item ps x w.other q (subst (λ k. slice_get ps k ≡ Some w.other) e w.there) at in
-        inr (subst (LeadsTo p) s w.on, sym (ap (λ (z : Patch). z.node) s) ∙ w.to))
+        inr (subst (IsPatchNeighbour p) s w.on, sym (ap (λ (z : Patch). z.node) s) ∙ w.to))
   ]
 
-  added_past : (before after : List ℕ) → (LeadsTo p q → ⊥) → AreAdded ps p seen before after → AreAdded ps p (seen ++ (x ∷ [])) before after
+  added_past : (before after : List ℕ) → (IsPatchNeighbour p q → ⊥) → AreAdded ps p seen before after → AreAdded ps p (seen ++ (x ∷ [])) before after
   added_past before after n h y = (
     λ i. elim ((h y).0 i) [ inl a ↦ inl a | inr w ↦ inr (led_on y w) ],
     λ i. elim i [ inl a ↦ (h y).1 (inl a) | inr w ↦ elim (led_back y w) [ inl v ↦ (h y).1 (inr v) | inr v ↦ absurd (n v.0) ] ],
   )
 
-  added_to : (before after : List ℕ) → LeadsTo p q → AreAdded ps p seen before after → AreAdded ps p (seen ++ (x ∷ [])) before (after ++ (q.node ∷ []))
+  added_to : (before after : List ℕ) → IsPatchNeighbour p q → AreAdded ps p seen before after → AreAdded ps p (seen ++ (x ∷ [])) before (after ++ (q.node ∷ []))
   added_to before after l h y = (
     λ i. elim (last_split y q.node after i) [
       | inl a ↦ elim ((h y).0 a) [ inl b ↦ inl b | inr w ↦ inr (led_on y w) ]
@@ -70,12 +70,12 @@ module _ (ps : List Patch) (p : Patch) (seen : List ℕ) (x : ℕ) (q : Patch) (
     ],
   )
 
-pub added_other : (ps : List Patch) (p q : Patch) (met : List ℕ) (i d : ℕ) (before after : List ℕ) → i < length met → slice_get ps (get_or met i d) ≡ Some q → (LeadsTo p q → ⊥)
+pub added_other : (ps : List Patch) (p q : Patch) (met : List ℕ) (i d : ℕ) (before after : List ℕ) → i < length met → slice_get ps (get_or met i d) ≡ Some q → (IsPatchNeighbour p q → ⊥)
     → AreAdded ps p (take i met) before after → AreAdded ps p (take (i + 1) met) before after
 added_other ps p q met i d before after l at n h =
     subst (λ z. AreAdded ps p z before after) (sym (take_more met i d l)) (added_past ps p (take i met) (get_or met i d) q at before after n h)
 
-pub added_more : (ps : List Patch) (p q : Patch) (met : List ℕ) (i d : ℕ) (before after : List ℕ) → i < length met → slice_get ps (get_or met i d) ≡ Some q → LeadsTo p q
+pub added_more : (ps : List Patch) (p q : Patch) (met : List ℕ) (i d : ℕ) (before after : List ℕ) → i < length met → slice_get ps (get_or met i d) ≡ Some q → IsPatchNeighbour p q
     → AreAdded ps p (take i met) before after → AreAdded ps p (take (i + 1) met) before (after ++ (q.node ∷ []))
 added_more ps p q met i d before after l at n h =
     subst (λ z. AreAdded ps p z before (after ++ (q.node ∷ []))) (sym (take_more met i d l)) (added_to ps p (take i met) (get_or met i d) q at before after n h)
@@ -84,13 +84,13 @@ pub added_end : (ps : List Patch) (p : Patch) (met : List ℕ) (i : ℕ) (before
 added_end ps p met i before after l h = subst (λ z. AreAdded ps p z before after) (take_all i met l) h
 
 -- ---- what is gathered of one node
-pub met_places : (ps : List Patch) (o : Bounds) (met : List ℕ) → AreThoseMeeting (hulls_of ps) o met → All (λ j. j < length ps) met
+pub met_places : (ps : List Patch) (o : Bounds) (met : List ℕ) → AreThoseMeeting (patch_hulls ps) o met → All (λ j. j < length ps) met
 met_places ps o met m =
     let n = length-map ps (λ (q : Patch). q.hull) in all_of (λ j. j < length ps) met (λ j i. let l = ((m.same j).0 i).0 in omega (arith, l, n))
 
-module _ (ps : List Patch) (k i : ℕ) (p : Patch) (at : slice_get ps i ≡ Some p) (own : p.node ≡ k) (met old new : List ℕ) (m : AreThoseMeeting (hulls_of ps) p.hull met)
+module _ (ps : List Patch) (k i : ℕ) (p : Patch) (at : slice_get ps i ≡ Some p) (own : p.node ≡ k) (met old new : List ℕ) (m : AreThoseMeeting (patch_hulls ps) p.hull met)
     (a : AreAdded ps p met old new) (h : AreGathered ps k i old) where
-  way_on : (y : ℕ) → IsWay ps k i y → IsWay ps k (i + 1) y
+  way_on : (y : ℕ) → IsWayByPatches ps k i y → IsWayByPatches ps k (i + 1) y
   way_on y w = record {
     place = w.place;
     first = w.first;
@@ -104,7 +104,7 @@ module _ (ps : List Patch) (k i : ℕ) (p : Patch) (at : slice_get ps i ≡ Some
     on = w.on;
   }
 
-  way_of : (y : ℕ) → LeadsInto ps p met y → IsWay ps k (i + 1) y
+  way_of : (y : ℕ) → LeadsInto ps p met y → IsWayByPatches ps k (i + 1) y
   way_of y w =
       let t = ((m.same w.place).0 w.one).1 in
       let e : t.other ≡ w.other.hull = same_Some t.other w.other.hull (sym t.there ∙ hull_there ps w.place w.other w.there) in
@@ -121,7 +121,7 @@ module _ (ps : List Patch) (k i : ℕ) (p : Patch) (at : slice_get ps i ≡ Some
         on = w.on;
       }
 
-  way_back : (y : ℕ) → IsWay ps k (i + 1) y → IsWay ps k i y ⊎ LeadsInto ps p met y
+  way_back : (y : ℕ) → IsWayByPatches ps k (i + 1) y → IsWayByPatches ps k i y ⊎ LeadsInto ps p met y
   way_back y w = elim (cases_lt w.place i) [
     | inl l ↦ inl (record {
       place = w.place;
@@ -140,13 +140,13 @@ module _ (ps : List Patch) (k i : ℕ) (p : Patch) (at : slice_get ps i ≡ Some
         let s : w.first ≡ p = same_item ps i w.first p (subst (λ z. slice_get ps z ≡ Some w.first) e w.there) at in
         let c = place_in ps w.second w.other in
         let f = hull_there ps c.0 w.second c.1 in
-        let n : c.0 < length (hulls_of ps) = slice_get_within (hulls_of ps) c.0 w.second.hull f in
+        let n : c.0 < length (patch_hulls ps) = slice_get_within (patch_hulls ps) c.0 w.second.hull f in
         inr (record {
           place = c.0;
           other = w.second;
           one = (m.same c.0).1 (n, record { other = w.second.hull; there = f; meet = IsMeeting-sym p.hull w.second.hull (subst (λ (z : Patch). IsMeeting z.hull w.second.hull) s w.meet) });
           there = c.1;
-          on = subst (λ (z : Patch). LeadsTo z w.second) s w.on;
+          on = subst (λ (z : Patch). IsPatchNeighbour z w.second) s w.on;
           to = w.to;
         }))
   ]
@@ -228,7 +228,7 @@ stretch_of ps k first end lo hi w = record {
 
 -- one patch more, as the code has it
 pub gathered_turn : (ps seen : List Patch) (k first end i : ℕ) (p : Patch) (octs : List Bounds) (met shown old new : List ℕ) → IsStretch ps k first end → first ≤ i → i < end
-    → p ≡ get_or ps i p → octs ≡ hulls_of ps → AreThoseMeeting octs p.hull met → seen ≡ ps → shown ≡ met → AreAdded seen p shown old new → AreGathered ps k i old
+    → p ≡ get_or ps i p → octs ≡ patch_hulls ps → AreThoseMeeting octs p.hull met → seen ≡ ps → shown ≡ met → AreAdded seen p shown old new → AreGathered ps k i old
     → AreGathered ps k (i + 1) new
 gathered_turn ps seen k first end i p octs met shown old new s l m e o t es em a h =
     let w = s.within in

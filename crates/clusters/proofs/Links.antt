@@ -9,15 +9,15 @@ use Rattle.islands.proofs.Members.{of_all}
 use Rattle.fill_rules.specs.Clusters.{AreTouching}
 use Rattle.fill_rules.specs.ClusterLaws.{TouchLaw}
 use Rattle.clusters.specs.declared.patch.Patch.{Patch}
-use Rattle.clusters.specs.Inner.Patches.{IsPatch, HaveCommonLayer, LeadsTo, ArePatchesLinked, AreNodesLinkedBy}
+use Rattle.clusters.specs.Inner.Patches.{IsPatch, HaveCommonLayer, IsPatchNeighbour, ArePatchesLinked, AreNodesLinkedBy}
 
-pub leads_is : (p q : Patch) (t : Bool) → (p.node ≡ q.node → ⊥) → p.net ≡ q.net → HaveCommonLayer p.layers q.layers → IsTrue t ↔ AreTouching p.shape q.shape → IsTrue t ↔ LeadsTo p q
+pub leads_is : (p q : Patch) (t : Bool) → (p.node ≡ q.node → ⊥) → p.net ≡ q.net → HaveCommonLayer p.layers q.layers → IsTrue t ↔ AreTouching p.shape q.shape → IsTrue t ↔ IsPatchNeighbour p q
 leads_is p q t a n l h = (λ e. record { apart = a; net = n; layer = l; touch = h.0 e }, λ w. h.1 w.touch)
 
-pub leads_of : (p q : Patch) → (p.node ≡ q.node → ⊥) → ArePatchesLinked p q → LeadsTo p q
+pub leads_of : (p q : Patch) → (p.node ≡ q.node → ⊥) → ArePatchesLinked p q → IsPatchNeighbour p q
 leads_of p q n h = record { apart = n; net = h.net; layer = h.layer; touch = h.touch }
 
-pub linked_of : (p q : Patch) → LeadsTo p q → IsMeeting p.hull q.hull → ArePatchesLinked p q
+pub linked_of : (p q : Patch) → IsPatchNeighbour p q → IsMeeting p.hull q.hull → ArePatchesLinked p q
 linked_of p q h m = record { net = h.net; layer = h.layer; meet = m; touch = h.touch }
 
 pub linked_back : TouchLaw → (p q : Patch) → ArePatchesLinked p q → ArePatchesLinked q p

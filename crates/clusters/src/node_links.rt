@@ -5,7 +5,7 @@ ghost use Rattle.spreading.specs.Labels.{AreLabels};
 ghost use Rattle.islands.specs.Held.{IsAnchorInRoom};
 ghost use Rattle.clusters.specs.declared.patch.Patch.{Patch};
 ghost use Rattle.clusters.specs.Inner.Patches.{IsPatch, AreNodesLinkedBy};
-ghost use Rattle.clusters.specs.Inner.Links.{ArePatchesInOrder, AreAdded, hulls_of};
+ghost use Rattle.clusters.specs.Inner.Links.{ArePatchesInOrder, AreAdded, patch_hulls};
 
 use crate::patch::Patch;
 use bins::Bins;
@@ -58,7 +58,7 @@ pub fn labels(alloc: Global, patches: Vec<Patch>, count: u32) -> Result<Vec<u32>
     ensures { IfOk result (λ labels. AreLabels count (AreNodesLinkedBy patches.items) labels.items) }
 {
     touch_law();
-    let hulls = hulls_of(alloc, &patches)?;
+    let hulls = patch_hulls(alloc, &patches)?;
     let bins = Bins::of(alloc, &hulls)?;
     let links = NodeLinks {
         count,
@@ -69,8 +69,8 @@ pub fn labels(alloc: Global, patches: Vec<Patch>, count: u32) -> Result<Vec<u32>
     Ok(labels)
 }
 
-fn hulls_of(alloc: Global, patches: &[Patch]) -> Result<Vec<Oct>, Memory>
-    ensures { IfOk result (λ hulls. hulls.items ≡ hulls_of patches.now) }
+fn patch_hulls(alloc: Global, patches: &[Patch]) -> Result<Vec<Oct>, Memory>
+    ensures { IfOk result (λ hulls. hulls.items ≡ patch_hulls patches.now) }
 {
     let mut hulls = Vec::new(alloc);
     'each: for patch in patches {

@@ -1,7 +1,7 @@
 // Patches: each is one hull of one shape of copper, with the node that it belongs to.
 ghost use Rattle.std.specs.Prelude.{◌↔◌, IsTrue};
 ghost use Rattle.islands.specs.Held.{IsAnchorInRoom};
-ghost use Rattle.clusters.specs.Inner.Patches.{HaveCommonLayer, LeadsTo};
+ghost use Rattle.clusters.specs.Inner.Patches.{HaveCommonLayer, IsPatchNeighbour};
 
 use copper_shape::Shape;
 use octagon::Oct;
@@ -23,7 +23,7 @@ impl Patch {
     pub fn leads_to(&self, other: &Patch) -> bool
         requires one { IsAnchorInRoom self.now.shape }
         requires other { IsAnchorInRoom other.now.shape }
-        ensures { IsTrue result ↔ LeadsTo self.now other.now }
+        ensures { IsTrue result ↔ IsPatchNeighbour self.now other.now }
     {
         if self.node == other.node {
             return false;

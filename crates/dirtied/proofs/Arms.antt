@@ -17,36 +17,36 @@ use Rattle.edit_language.specs.declared.edit.Edit.{Edit}
 use Rattle.edit_language.specs.declared.edit.Edit.TheVariants as edits
 use Rattle.board_edit.specs.Edited.{IsReadOf}
 use Rattle.dirty_rules.specs.Dirty.{IsDirtyingAsTrack, IsDirtyingAsVia, IsDirtyingAsZone, IsZoneDirtying, IsDirtying}
-use Rattle.dirtied.specs.Dirtied.{AreFlags, AreDirtied}
-use Rattle.dirtied.specs.Inner.Named.{track_in, via_in, zone_in, IsDirtyingTrack, IsDirtyingVia, IsDirtyingZone, IsDirtyingCopper, IsDirtyingNamed}
+use Rattle.dirtied.specs.Dirtied.{AreTaskFlags, AreDirtied}
+use Rattle.dirtied.specs.Inner.Named.{track_in, via_in, zone_number_in, IsDirtyingTrack, IsDirtyingVia, IsDirtyingZone, IsDirtyingCopper, IsDirtyingNamed}
 use Rattle.dirtied.proofs.Flags.{flags_as}
 use Rattle.dirtied.proofs.Stamped.{track_is, via_is, zone_is}
 
 -- ---- where there is something, and where there is nothing
 
-pub some_track : (b : Board) (o : Option Track) (track : Track) (flags : List Bool) → o ≡ Some track → AreFlags b (λ k. IsTrackDirtying b k track) flags → AreFlags b (IsDirtyingTrack b o) flags
+pub some_track : (b : Board) (o : Option Track) (track : Track) (flags : List Bool) → o ≡ Some track → AreTaskFlags b (λ k. IsTrackDirtying b k track) flags → AreTaskFlags b (IsDirtyingTrack b o) flags
 unfolding IsDirtyingTrack
 some_track b o track flags e f =
     flags_as b _ _ flags (λ k. (λ d. (track, e, d), λ d. subst (IsTrackDirtying b k) (same_Some d.0 track (sym d.1 ∙ e)) d.2)) f
 
-pub no_track : (b : Board) (o : Option Track) (flags : List Bool) → o ≡ None → AreFlags b (λ k. ⊥) flags → AreFlags b (IsDirtyingTrack b o) flags
+pub no_track : (b : Board) (o : Option Track) (flags : List Bool) → o ≡ None → AreTaskFlags b (λ k. ⊥) flags → AreTaskFlags b (IsDirtyingTrack b o) flags
 unfolding IsDirtyingTrack
 no_track b o flags e f = flags_as b _ _ flags (λ k. (λ n. absurd n, λ d. none-some d.0 (sym e ∙ d.1))) f
 
-pub some_via : (b : Board) (o : Option Via) (via : Via) (flags : List Bool) → o ≡ Some via → AreFlags b (λ k. IsViaDirtying b k via) flags → AreFlags b (IsDirtyingVia b o) flags
+pub some_via : (b : Board) (o : Option Via) (via : Via) (flags : List Bool) → o ≡ Some via → AreTaskFlags b (λ k. IsViaDirtying b k via) flags → AreTaskFlags b (IsDirtyingVia b o) flags
 unfolding IsDirtyingVia
 some_via b o via flags e f = flags_as b _ _ flags (λ k. (λ d. (via, e, d), λ d. subst (IsViaDirtying b k) (same_Some d.0 via (sym d.1 ∙ e)) d.2)) f
 
-pub no_via : (b : Board) (o : Option Via) (flags : List Bool) → o ≡ None → AreFlags b (λ k. ⊥) flags → AreFlags b (IsDirtyingVia b o) flags
+pub no_via : (b : Board) (o : Option Via) (flags : List Bool) → o ≡ None → AreTaskFlags b (λ k. ⊥) flags → AreTaskFlags b (IsDirtyingVia b o) flags
 unfolding IsDirtyingVia
 no_via b o flags e f = flags_as b _ _ flags (λ k. (λ n. absurd n, λ d. none-some d.0 (sym e ∙ d.1))) f
 
-pub some_zone : (b d : Board) (o : Option ℕ) (n : ℕ) (flags : List Bool) → o ≡ Some n → AreFlags d (λ k. IsZoneDirtying b d n (task_at d k)) flags → AreFlags d (IsDirtyingZone b d o) flags
+pub some_zone : (b d : Board) (o : Option ℕ) (n : ℕ) (flags : List Bool) → o ≡ Some n → AreTaskFlags d (λ k. IsZoneDirtying b d n (task_at d k)) flags → AreTaskFlags d (IsDirtyingZone b d o) flags
 unfolding IsDirtyingZone
 some_zone b d o n flags e f =
     flags_as d _ _ flags (λ k. (λ x. (n, e, x), λ x. subst (λ m. IsZoneDirtying b d m (task_at d k)) (same_Some x.0 n (sym x.1 ∙ e)) x.2)) f
 
-pub no_zone : (b d : Board) (o : Option ℕ) (flags : List Bool) → o ≡ None → AreFlags d (λ k. ⊥) flags → AreFlags d (IsDirtyingZone b d o) flags
+pub no_zone : (b d : Board) (o : Option ℕ) (flags : List Bool) → o ≡ None → AreTaskFlags d (λ k. ⊥) flags → AreTaskFlags d (IsDirtyingZone b d o) flags
 unfolding IsDirtyingZone
 no_zone b d o flags e f = flags_as d _ _ flags (λ k. (λ n. absurd n, λ x. none-some x.0 (sym e ∙ x.1))) f
 
@@ -59,8 +59,8 @@ not_via b (Some (things.Via n)) track via t v = none-some track t
 not_via b (Some (things.Zone n)) track via t v = none-some track t
 not_via b (Some things.Other) track via t v = none-some track t
 
-pub drops_track : (b d : Board) (o : Option Stamped) (p : Option Track) (track : Track) (flags : List Bool) → p ≡ track_in b o → p ≡ Some track → AreFlags d (IsDirtyingTrack d p) flags
-    → AreFlags d (IsDirtyingCopper b d o) flags
+pub drops_track : (b d : Board) (o : Option Stamped) (p : Option Track) (track : Track) (flags : List Bool) → p ≡ track_in b o → p ≡ Some track → AreTaskFlags d (IsDirtyingTrack d p) flags
+    → AreTaskFlags d (IsDirtyingCopper b d o) flags
 unfolding IsDirtyingCopper IsDirtyingTrack IsDirtyingVia
 drops_track b d o p track flags e s f = flags_as d _ _ flags (λ k. (λ x. inl (x.0, sym e ∙ x.1, x.2), λ x. back k x)) f
   where
@@ -68,8 +68,8 @@ drops_track b d o p track flags e s f = flags_as d _ _ flags (λ k. (λ x. inl (
     back k (inl x) = (x.0, e ∙ x.1, x.2)
     back k (inr y) = absurd (not_via b o track y.0 (sym e ∙ s) y.1)
 
-pub drops_via : (b d : Board) (o : Option Stamped) (p : Option Track) (q : Option Via) (flags : List Bool) → p ≡ track_in b o → p ≡ None → q ≡ via_in b o → AreFlags d (IsDirtyingVia d q) flags
-    → AreFlags d (IsDirtyingCopper b d o) flags
+pub drops_via : (b d : Board) (o : Option Stamped) (p : Option Track) (q : Option Via) (flags : List Bool) → p ≡ track_in b o → p ≡ None → q ≡ via_in b o → AreTaskFlags d (IsDirtyingVia d q) flags
+    → AreTaskFlags d (IsDirtyingCopper b d o) flags
 unfolding IsDirtyingCopper IsDirtyingTrack IsDirtyingVia
 drops_via b d o p q flags e n v f = flags_as d _ _ flags (λ k. (λ x. inr (x.0, sym v ∙ x.1, x.2), λ x. back k x)) f
   where
@@ -100,7 +100,7 @@ via_told text rules w d stamp k h e =
     (λ x. (x.0, (via_is text rules w stamp x.0 h e).0 x.1, x.2), λ x. (x.0, (via_is text rules w stamp x.0 h e).1 x.1, x.2))
 
 zone_told : (text : List ℕ) (rules : Rules) (w : Whole) (d : Board) (stamp : List ℕ) (k : ℕ) → IsReadOf text w → w.board.rules ≡ rules
-    → IsDirtyingZone w.board d (zone_in (stamped w.stamps stamp)) k ↔ IsDirtyingAsZone text stamp w.board d k
+    → IsDirtyingZone w.board d (zone_number_in (stamped w.stamps stamp)) k ↔ IsDirtyingAsZone text stamp w.board d k
 unfolding IsDirtyingZone
 zone_told text rules w d stamp k h e =
     (λ x. (x.0, (zone_is text rules w stamp x.0 h e).0 x.1, x.2), λ x. (x.0, (zone_is text rules w stamp x.0 h e).1 x.1, x.2))
@@ -126,5 +126,5 @@ named_told text after rules old new (edits.Drop stamp) k g h e r =
 named_told text after rules old new (edits.Priority stamp value) k g h e r = zone_told text rules old new.board stamp k g e
 named_told text after rules old new (edits.Clearance stamp value) k g h e r = zone_told text rules old new.board stamp k g e
 
-pub told : (old new : Whole) (edit : Edit) (flags : List Bool) → AreFlags new.board (IsDirtyingNamed old new edit) flags → AreDirtied old new edit flags
+pub told : (old new : Whole) (edit : Edit) (flags : List Bool) → AreTaskFlags new.board (IsDirtyingNamed old new edit) flags → AreDirtied old new edit flags
 told old new edit flags f text after rules g h e r = flags_as new.board _ _ flags (λ k. named_told text after rules old new edit k g h e r) f

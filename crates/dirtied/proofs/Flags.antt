@@ -5,7 +5,7 @@ use Rattle.board_language.specs.Board.{Board}
 use Rattle.fill_rules.specs.Tasks.{Task, ranked, task_at, no_task}
 use Rattle.fills.specs.declared.Task as fills
 use Rattle.fills.specs.Fills.{task_of}
-use Rattle.dirtied.specs.Dirtied.{AreFlags}
+use Rattle.dirtied.specs.Dirtied.{AreTaskFlags}
 use Rattle.dirtied.specs.Inner.Ranked.{AreTasks}
 
 -- the flags tell of each of their places whether P holds
@@ -57,12 +57,12 @@ task_is b tasks k d h l = sym (at_place task_of tasks k d (no_task b) l) ∙ ap 
 
 -- ---- all flags
 
-pub all_told : (b : Board) (P : ℕ → Type 0) (tasks : List fills.Task) (flags : List Bool) → AreTasks b tasks → AreSoFar P (length tasks) flags → AreFlags b P flags
+pub all_told : (b : Board) (P : ℕ → Type 0) (tasks : List fills.Task) (flags : List Bool) → AreTasks b tasks → AreSoFar P (length tasks) flags → AreTaskFlags b P flags
 all_told b P tasks flags h s =
     let c = count_is b tasks h in
     record { all = s.count ∙ c; each = λ k l. s.tell k (subst (λ n. k < n) (sym (s.count ∙ c)) l) }
 
-pub flags_as : (b : Board) (P Q : ℕ → Type 0) (flags : List Bool) → ((k : ℕ) → P k ↔ Q k) → AreFlags b P flags → AreFlags b Q flags
+pub flags_as : (b : Board) (P Q : ℕ → Type 0) (flags : List Bool) → ((k : ℕ) → P k ↔ Q k) → AreTaskFlags b P flags → AreTaskFlags b Q flags
 flags_as b P Q flags h f = record { all = f.all; each = λ k l. (λ e. (h k).0 ((f.each k l).0 e), λ q. (f.each k l).1 ((h k).1 q)) }
 
 pub ok_so : {A E : Type 0} (r : Result A E) (P Q : A → Type 0) → ((a : A) → P a → Q a) → IfOk r P → IfOk r Q

@@ -17,7 +17,7 @@ use Rattle.edit_language.proofs.OneRoot.{one_root}
 use Rattle.board_edit.specs.Edited.{IsReadOf}
 use Rattle.board_edit.proofs.Boards.{rules_so}
 use Rattle.dirty_rules.specs.Dirty.{HasTrack, HasVia, HasZone}
-use Rattle.dirtied.specs.Inner.Named.{track_in, via_in, zone_in}
+use Rattle.dirtied.specs.Inner.Named.{track_in, via_in, zone_number_in}
 
 -- the board at the root of its text, under its rules
 at_root : (text : List ℕ) (root : Item) (rules : Rules) (w : Whole) → IsReadOf text w → w.board.rules ≡ rules → IsRoot text root → w ≡ whole_board text root rules
@@ -86,11 +86,11 @@ via_is text rules w stamp via h e = (λ v. via_from text rules w stamp via (stam
 
 -- ---- zones
 
-zone_so : (text : List ℕ) (rules : Rules) (w : Whole) (stamp : List ℕ) (n : ℕ) → IsReadOf text w → w.board.rules ≡ rules → HasZone text stamp n → zone_in (stamped w.stamps stamp) ≡ Some n
-zone_so text rules w stamp n h e z = ap zone_in (stamp_is text z.root rules w stamp (at_root text z.root rules w h e z.is_root) ∙ z.stamped)
+zone_so : (text : List ℕ) (rules : Rules) (w : Whole) (stamp : List ℕ) (n : ℕ) → IsReadOf text w → w.board.rules ≡ rules → HasZone text stamp n → zone_number_in (stamped w.stamps stamp) ≡ Some n
+zone_so text rules w stamp n h e z = ap zone_number_in (stamp_is text z.root rules w stamp (at_root text z.root rules w h e z.is_root) ∙ z.stamped)
 
 zone_from : (text : List ℕ) (rules : Rules) (w : Whole) (stamp : List ℕ) (n : ℕ) (o : Option Stamped) → IsReadOf text w → w.board.rules ≡ rules → stamped w.stamps stamp ≡ o
-    → zone_in o ≡ Some n → HasZone text stamp n
+    → zone_number_in o ≡ Some n → HasZone text stamp n
 zone_from text rules w stamp n None h e s z = absurd (none-some n z)
 zone_from text rules w stamp n (Some (things.Track m)) h e s z = absurd (none-some n z)
 zone_from text rules w stamp n (Some (things.Via m)) h e s z = absurd (none-some n z)
@@ -103,5 +103,5 @@ zone_from text rules w stamp n (Some (things.Zone m)) h e s z =
 zone_from text rules w stamp n (Some things.Other) h e s z = absurd (none-some n z)
 
 pub zone_is : (text : List ℕ) (rules : Rules) (w : Whole) (stamp : List ℕ) (n : ℕ) → IsReadOf text w → w.board.rules ≡ rules
-    → (zone_in (stamped w.stamps stamp) ≡ Some n) ↔ HasZone text stamp n
+    → (zone_number_in (stamped w.stamps stamp) ≡ Some n) ↔ HasZone text stamp n
 zone_is text rules w stamp n h e = (λ z. zone_from text rules w stamp n (stamped w.stamps stamp) h e refl z, λ z. zone_so text rules w stamp n h e z)

@@ -9,7 +9,7 @@ use Rattle.edit_language.specs.declared.edit.Edit.{Edit}
 use Rattle.dirty_rules.specs.Dirty.{IsDirtying}
 
 -- each task of the board has a flag at its rank, which is set exactly where this holds of the rank
-pub record AreFlags (b : Board) (P : ℕ → Type 0) (flags : List Bool) : Type 0 where
+pub record AreTaskFlags (b : Board) (P : ℕ → Type 0) (flags : List Bool) : Type 0 where
   pub all : length flags ≡ length (ranked b)
   pub each : (k : ℕ) → k < length (ranked b) → (get_or flags k false ≡ true) ↔ P k
 
@@ -18,4 +18,4 @@ pub record AreFlags (b : Board) (P : ℕ → Type 0) (flags : List Bool) : Type 
 abbrev pub AreDirtied : Whole → Whole → Edit → List Bool → Type 0
 AreDirtied old new edit flags =
     (text after : List ℕ) (rules : Rules) → IsReadOf text old → IsReadOf after new → old.board.rules ≡ rules → new.board.rules ≡ rules
-    → AreFlags new.board (IsDirtying text after rules old.board new.board edit) flags
+    → AreTaskFlags new.board (IsDirtying text after rules old.board new.board edit) flags

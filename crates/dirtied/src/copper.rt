@@ -8,7 +8,7 @@ ghost use Rattle.fill_rules.specs.Needs.{track_copper, via_copper};
 ghost use Rattle.fill_rules.specs.Edits.{IsTrackDirtying, IsViaDirtying};
 ghost use Rattle.fills.specs.Fills.{task_of};
 ghost use Rattle.knockouts.specs.Inner.Reach.{IsTrackInReach, IsViaInReach};
-ghost use Rattle.dirtied.specs.Dirtied.{AreFlags};
+ghost use Rattle.dirtied.specs.Dirtied.{AreTaskFlags};
 ghost use Rattle.dirtied.specs.Inner.Ranked.{AreTasks};
 
 use crate::beside::is_beside;
@@ -87,7 +87,7 @@ pub fn by_track(
 ) -> Result<Vec<bool>, Memory>
     requires tasks { AreTasks board.now.board tasks.now }
     requires track { IsTrackInReach track.now }
-    ensures { IfOk result (λ v. AreFlags board.now.board (λ k. IsTrackDirtying board.now.board k track.now) v.items) }
+    ensures { IfOk result (λ v. AreTaskFlags board.now.board (λ k. IsTrackDirtying board.now.board k track.now) v.items) }
 {
     let hulls = track_hulls(alloc, track)?;
     let mut flags = Vec::new(alloc);
@@ -105,7 +105,7 @@ pub fn by_track(
 pub fn by_via(alloc: Global, board: &Board, tasks: &[Task], via: &Via) -> Result<Vec<bool>, Memory>
     requires tasks { AreTasks board.now.board tasks.now }
     requires via { IsViaInReach via.now }
-    ensures { IfOk result (λ v. AreFlags board.now.board (λ k. IsViaDirtying board.now.board k via.now) v.items) }
+    ensures { IfOk result (λ v. AreTaskFlags board.now.board (λ k. IsViaDirtying board.now.board k via.now) v.items) }
 {
     let hulls = via_hulls(alloc, via)?;
     let mut flags = Vec::new(alloc);

@@ -1,7 +1,7 @@
 // Which tasks one edit dirties directly.
 ghost use Rattle.std.specs.Prelude.{◌≡◌, IfOk};
 ghost use Rattle.board_items.specs.Stamps.{stamped};
-ghost use Rattle.dirtied.specs.Dirtied.{AreFlags, AreDirtied};
+ghost use Rattle.dirtied.specs.Dirtied.{AreTaskFlags, AreDirtied};
 ghost use Rattle.dirtied.specs.Inner.Ranked.{AreTasks};
 ghost use Rattle.dirtied.specs.Inner.Named.{IsDirtyingCopper, IsDirtyingNamed};
 
@@ -22,7 +22,7 @@ fn by_dropped(
     stamp: &[u8],
 ) -> Result<Vec<bool>, Memory>
     requires { AreTasks new.now.board tasks.now }
-    ensures { IfOk result (λ v. AreFlags new.now.board (IsDirtyingCopper old.now.board new.now.board (stamped old.now.stamps stamp.now)) v.items) }
+    ensures { IfOk result (λ v. AreTaskFlags new.now.board (IsDirtyingCopper old.now.board new.now.board (stamped old.now.stamps stamp.now)) v.items) }
 {
     let track = track_with(old, stamp);
     if track.is_some() {
@@ -42,7 +42,7 @@ fn by_stamp(
     edit: &Edit,
 ) -> Result<Vec<bool>, Memory>
     requires { AreTasks new.now.board tasks.now }
-    ensures { IfOk result (λ v. AreFlags new.now.board (IsDirtyingNamed old.now new.now edit.now) v.items) }
+    ensures { IfOk result (λ v. AreTaskFlags new.now.board (IsDirtyingNamed old.now new.now edit.now) v.items) }
 {
     match edit {
         Edit::Track { stamp, .. } => {

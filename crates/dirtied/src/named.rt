@@ -2,9 +2,9 @@
 ghost use Rattle.std.specs.Prelude.{◌≡◌, option_map, IfOk, IfSome};
 ghost use Rattle.board_items.specs.Stamps.{stamped};
 ghost use Rattle.knockouts.specs.Inner.Reach.{IsTrackInReach, IsViaInReach};
-ghost use Rattle.dirtied.specs.Dirtied.{AreFlags};
+ghost use Rattle.dirtied.specs.Dirtied.{AreTaskFlags};
 ghost use Rattle.dirtied.specs.Inner.Ranked.{AreTasks};
-ghost use Rattle.dirtied.specs.Inner.Named.{track_in, via_in, zone_in, IsDirtyingTrack, IsDirtyingVia, IsDirtyingZone};
+ghost use Rattle.dirtied.specs.Inner.Named.{track_in, via_in, zone_number_in, IsDirtyingTrack, IsDirtyingVia, IsDirtyingZone};
 
 use crate::copper::{by_track, by_via};
 use crate::zones::by_zone;
@@ -40,7 +40,7 @@ pub fn via_with<'a>(board: &'a Board, stamp: &[u8]) -> Option<&'a Via>
 
 /// The number of the copper zone that has it.
 pub fn zone_with(board: &Board, stamp: &[u8]) -> Option<u32>
-    ensures { result ≡ zone_in (stamped board.now.stamps stamp.now) }
+    ensures { result ≡ zone_number_in (stamped board.now.stamps stamp.now) }
 {
     match board.stamp_of(stamp) {
         Some(Stamped::Zone(number)) => Some(number),
@@ -51,7 +51,7 @@ pub fn zone_with(board: &Board, stamp: &[u8]) -> Option<u32>
 /// Flags of which none is set.
 fn no_flags(alloc: Global, board: &Board, tasks: &[Task]) -> Result<Vec<bool>, Memory>
     requires { AreTasks board.now.board tasks.now }
-    ensures { IfOk result (λ v. AreFlags board.now.board (λ k. ⊥) v.items) }
+    ensures { IfOk result (λ v. AreTaskFlags board.now.board (λ k. ⊥) v.items) }
 {
     Ok(vec![in alloc; false; tasks.len()]?)
 }
@@ -69,7 +69,7 @@ pub fn by_named_track(
 ) -> Result<Vec<bool>, Memory>
     requires tasks { AreTasks board.now.board tasks.now }
     requires track { IfSome track (λ t. IsTrackInReach t.now) }
-    ensures { IfOk result (λ v. AreFlags board.now.board (IsDirtyingTrack board.now.board (option_map (λ t. t.now) track.entry)) v.items) }
+    ensures { IfOk result (λ v. AreTaskFlags board.now.board (IsDirtyingTrack board.now.board (option_map (λ t. t.now) track.entry)) v.items) }
 {
     match track {
         Some(track) => by_track(alloc, board, tasks, track),
@@ -90,7 +90,7 @@ pub fn by_named_via(
 ) -> Result<Vec<bool>, Memory>
     requires tasks { AreTasks board.now.board tasks.now }
     requires via { IfSome via (λ v. IsViaInReach v.now) }
-    ensures { IfOk result (λ v. AreFlags board.now.board (IsDirtyingVia board.now.board (option_map (λ v. v.now) via.entry)) v.items) }
+    ensures { IfOk result (λ v. AreTaskFlags board.now.board (IsDirtyingVia board.now.board (option_map (λ v. v.now) via.entry)) v.items) }
 {
     match via {
         Some(via) => by_via(alloc, board, tasks, via),
@@ -111,7 +111,7 @@ pub fn by_named_zone(
     zone: Option<u32>,
 ) -> Result<Vec<bool>, Memory>
     requires { AreTasks new.now.board tasks.now }
-    ensures { IfOk result (λ v. AreFlags new.now.board (IsDirtyingZone old.now.board new.now.board zone) v.items) }
+    ensures { IfOk result (λ v. AreTaskFlags new.now.board (IsDirtyingZone old.now.board new.now.board zone) v.items) }
 {
     match zone {
         Some(zone) => by_zone(alloc, old, new, tasks, zone),

@@ -5,7 +5,7 @@ ghost use Rattle.fill_rules.specs.Tasks.{task_zone, task_at};
 ghost use Rattle.fill_rules.specs.Ranking.{IsTask};
 ghost use Rattle.fills.specs.Fills.{task_of};
 ghost use Rattle.dirty_rules.specs.Dirty.{IsReachingTask, AreTasksInReach, IsZoneDirtying};
-ghost use Rattle.dirtied.specs.Dirtied.{AreFlags};
+ghost use Rattle.dirtied.specs.Dirtied.{AreTaskFlags};
 ghost use Rattle.dirtied.specs.Inner.Ranked.{AreTasks};
 
 use board_language::Zone;
@@ -107,7 +107,7 @@ pub fn by_zone(
     zone: u32,
 ) -> Result<Vec<bool>, Memory>
     requires { AreTasks new.now.board tasks.now }
-    ensures { IfOk result (λ v. AreFlags new.now.board (λ k. IsZoneDirtying old.now.board new.now.board zone (task_at new.now.board k)) v.items) }
+    ensures { IfOk result (λ v. AreTaskFlags new.now.board (λ k. IsZoneDirtying old.now.board new.now.board zone (task_at new.now.board k)) v.items) }
 {
     let mut flags = Vec::new(alloc);
     'each: for rank in 0..tasks.len() {

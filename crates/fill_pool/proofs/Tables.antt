@@ -9,7 +9,7 @@ use Rattle.board_language.proofs.Members.{one_of_append, append_left, append_rig
 use Rattle.fill_rules.specs.Tasks.{Task, ranked, task_at, layer_at, no_task}
 use Rattle.fill_rules.specs.Reach.{IsReaching}
 use Rattle.fills.specs.Above.{AreRanksAscending, AreReaching}
-use Rattle.knockouts.specs.Reaching.{ReachesTask, RanksLaw}
+use Rattle.knockouts.specs.Reaching.{ReachesTask, ReachByRankLaw}
 use Rattle.fill_pool.specs.Runs.{count_of}
 use Rattle.fill_pool.specs.Inner.Tables.{AreLists, ArePlacesOn, AreByLayer, AreChosen}
 use Rattle.fill_pool.proofs.Boards.{one_of_get}
@@ -227,7 +227,7 @@ ranks_on_layer f g b ts lists n i x y e l h m is =
     (subst (λ (k : ℕ). ArePlacesOn (map f ts) (f (get_or ts i x)).layer k (g y)) (length-map ts f) own))
 
 -- what is told of two tasks of the list is told of their ranks
-pub reaching_is : {X : Type 0} (f : X → Task) (b : Board) (ts : List X) (j i : ℕ) (x y : X) (w : Bool) → RanksLaw → map f ts ≡ ranked b → j < length ts → i < length ts
+pub reaching_is : {X : Type 0} (f : X → Task) (b : Board) (ts : List X) (j i : ℕ) (x y : X) (w : Bool) → ReachByRankLaw → map f ts ≡ ranked b → j < length ts → i < length ts
     → IsTrue w ↔ ReachesTask b (f (get_or ts j x)) (f (get_or ts i y)) → IsTrue w ↔ IsReaching b j i
 unfolding task_at
 reaching_is f b ts j i x y w law e lj li h =

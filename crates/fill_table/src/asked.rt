@@ -1,11 +1,17 @@
 // What is asked of a board's fills, and what is answered of one of them.
-ghost use Rattle.std.specs.Prelude.{IfSome, ◌^◌};
+ghost use Rattle.std.specs.Prelude.{IfSome, ◌^◌, ◌<◌, length, map};
+ghost use Rattle.std.specs.Arc.{arc_value};
+ghost use Rattle.fills.specs.Fills.{AreBoardFills};
 ghost use Rattle.octagon.specs.Bounded.{IsNearZero, IsInReach};
 
+use crate::ranked::{fill_at, task_at};
+use crate::surroundings::{anchors_of, needs_of, reached_of, spokes_of};
+use board_model::Board;
 use fills::Fill;
-use grid_num::{Nm, Point, read_mm};
+use grid_num::{Memory, Nm, Point, read_mm};
 use octagon::Oct;
 use std::alloc::{AllocError, Global};
+use std::sync::Arc;
 
 // How many units a length has, if it is a whole number of them.
 fn units(length: Nm) -> Option<i64>
@@ -73,13 +79,32 @@ fn cover(alloc: Global, fill: &Fill, question: &str) -> Result<String, AllocErro
     format!(in alloc; "    {question} {answer}\n")
 }
 
-/// What is said of a fill: how many pieces, spokes and parts it has, or whether it covers a point.
-pub fn answer(alloc: Global, fill: &Fill, question: &str) -> Result<String, AllocError> {
-    if question != "pieces" {
-        return cover(alloc, fill, question);
-    }
+// Says how many pieces, spokes and parts the fill has.
+fn counts(alloc: Global, fill: &Fill) -> Result<String, AllocError> {
     let pieces = fill.pieces.len();
     let spokes = fill.spokes;
     let parts = part_count(&fill.parts);
     format!(in alloc; "    pieces {pieces} spokes {spokes} parts {parts}\n")
+}
+
+/// What is said of the task of the rank, or of its fill.
+pub fn answer(
+    alloc: Global,
+    board: &Board,
+    fills: &[Arc<Fill>],
+    rank: usize,
+    question: &str,
+) -> Result<String, Memory>
+    requires rank { rank < length fills.now }
+    requires fills { AreBoardFills board.now.board (map arc_value fills.now) }
+{
+    let task = task_at(board, fills, rank);
+    match question {
+        "pieces" => Ok(counts(alloc, fill_at(fills, rank))?),
+        "needs" => needs_of(alloc, board, fills, rank),
+        "spokes" => spokes_of(alloc, board, task),
+        "anchors" => anchors_of(alloc, board, task),
+        "reaches" => reached_of(alloc, board, task),
+        _ => Ok(cover(alloc, fill_at(fills, rank), question)?),
+    }
 }

@@ -1,5 +1,7 @@
 // A board is filled, and its fills outlined.
-ghost use Rattle.std.specs.Prelude.{◌≡◌, ◌<◌};
+ghost use Rattle.std.specs.Prelude.{◌≡◌, ◌<◌, map, IfOk};
+ghost use Rattle.std.specs.Arc.{arc_value};
+ghost use Rattle.fills.specs.Fills.{AreBoardFills};
 
 use board_language::Rules;
 use board_model::{Board, BoardError};
@@ -63,6 +65,7 @@ pub fn filled<L: Ledger>(alloc: Global, text: &[u8], blank: Blank) -> Result<Fil
     requires name { blank.name ≡ L.name }
     requires parts { blank.parts ≡ L.parts }
     requires some { 0 < blank.parts }
+    ensures { IfOk result (λ f. AreBoardFills f.board.board (map arc_value f.fills.items)) }
 {
     let tree = sexpr_text::read(alloc, text)?;
     let board = Board::read(alloc, text, &tree, RULES)?;

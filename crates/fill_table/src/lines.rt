@@ -1,8 +1,13 @@
 // The lines of a filled board.
+ghost use Rattle.std.specs.Prelude.{◌<◌, length, map};
+ghost use Rattle.std.specs.Arc.{arc_value};
+ghost use Rattle.fills.specs.Fills.{AreBoardFills};
+
 use crate::asked::answer;
 use crate::filling::FilledBoard;
-use fills::{Fill, Task};
-use grid_num::{MmText, Nm, Point, write_mm};
+use crate::surroundings::layer_name;
+use fills::Task;
+use grid_num::{Memory, MmText, Nm, Point, write_mm};
 use outlines::Traced;
 use std::alloc::{AllocError, Global};
 
@@ -29,8 +34,8 @@ fn add_ring(text: &mut String, corners: &[Point]) -> Result<(), AllocError> {
     text.push_str("\n")
 }
 
-/// Adds the head of a zone's fill on a layer: the zone's number, from 1, its line and the layer's name, how many rings there are,
-/// and twice their area.
+/// Adds the head of a zone's fill on a layer: the zone's number, from 1, its line and the layer's name, how many rings
+/// there are, and twice their area.
 fn add_head(
     alloc: Global,
     text: &mut String,
@@ -42,48 +47,52 @@ fn add_head(
     let Some(zone) = filled.board.zones().get(task.zone as usize) else {
         return text.push_str("  no zone\n");
     };
-    let Some(layer) = filled.board.layers().get(usize::from(task.layer)) else {
-        return text.push_str("  no layer\n");
-    };
-    let name = str::from_utf8(layer.bytes()).unwrap_or("?");
     let head = format!(in alloc;
-        "  zone {number} line {} {name} polygons {} area2 {}\n",
+        "  zone {number} line {} {} polygons {} area2 {}\n",
         zone.line,
+        layer_name(&filled.board, task),
         traced.rings.len(),
         traced.area2
     )?;
     text.push_str(head.as_str())
 }
 
-/// Adds what is answered of a fill, question by question.
+/// Adds what is answered of the task of the rank, question by question.
 fn add_answers(
     alloc: Global,
     text: &mut String,
-    fill: &Fill,
+    filled: &FilledBoard,
+    rank: usize,
     questions: &[String],
-) -> Result<(), AllocError> {
+) -> Result<(), Memory>
+    requires rank { rank < length filled.now.fills.items }
+    requires fills { AreBoardFills filled.now.board.board (map arc_value filled.now.fills.items) }
+{
     for question in questions {
-        text.push_str(answer(alloc, fill, question.as_str())?.as_str())?;
+        let answer = answer(alloc, &filled.board, &filled.fills, rank, question.as_str())?;
+        text.push_str(answer.as_str())?;
     }
     Ok(())
 }
 
-/// What is printed of a filled board: of each task, in rank order, its head, its rings and what is answered of its fill.
+/// What is printed of a filled board: of each task, in rank order, its head, its rings, and what is answered of it.
 pub fn lines_of(
     alloc: Global,
     filled: &FilledBoard,
     questions: &[String],
-) -> Result<String, AllocError> {
+) -> Result<String, Memory>
+    requires { AreBoardFills filled.now.board.board (map arc_value filled.now.fills.items) }
+{
     let mut text = String::new(alloc);
     for rank in 0..filled.fills.len() {
         let Some(traced) = filled.traced.get(rank) else {
-            return String::from_str(alloc, "  outlines are missing\n");
+            return Ok(String::from_str(alloc, "  outlines are missing\n")?);
         };
         add_head(alloc, &mut text, filled, filled.fills[rank].task, traced)?;
         for ring in &traced.rings {
             add_ring(&mut text, &ring.corners)?;
         }
-        add_answers(alloc, &mut text, &filled.fills[rank], questions)?;
+        add_answers(alloc, &mut text, filled, rank, questions)?;
     }
     Ok(text)
 }

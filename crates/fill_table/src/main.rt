@@ -1,13 +1,18 @@
 //! The program `fill_table`: it reads small boards, fills them, and prints the rings of each zone.
 //! Nothing stands above it: what it prints is compared with `stdout`, which was worked out from the rules of the fill.
-//! A line that begins with `== ` is a title, and the board stands behind it. Lines between the two ask for more: `pieces` for the
-//! numbers of pieces, spokes and parts of each fill, `at X Y` for whether it covers that point.
-//! Corners and points are in millimetres, areas twice over in square nanometres.
+//! A line that begins with `== ` is a title, and the board stands behind it. Lines between the two ask for more of
+//! each task: `pieces` for the numbers of pieces, spokes and parts of its fill, and `at X Y` for whether that
+//! covers the point; `needs` for what it keeps away from, `spokes` for those of its pads, `anchors` for the copper
+//! that holds its islands, and `reaches` for the tasks that it reaches. Corners and points are in millimetres,
+//! areas twice over in square nanometres, octagons and needs in units of 2 nm, radii of copper in halves of a
+//! nanometre.
 #![tactic(auto)]
 
 mod asked;
 mod filling;
 mod lines;
+mod ranked;
+mod surroundings;
 
 use filling::{Stop, filled};
 use lines::lines_of;
@@ -42,13 +47,19 @@ impl Case {
     }
 }
 
+/// What is printed of a board that is filled.
+fn filled_lines(alloc: Global, case: &Case) -> Result<String, Stop> {
+    let board = filled::<Brand>(alloc, case.text.as_bytes(), Blank::new(1))?;
+    Ok(lines_of(alloc, &board, &case.questions)?)
+}
+
 /// What is printed of a board; of none, nothing.
 fn said(alloc: Global, case: &Case) -> Result<String, AllocError> {
     if case.text.is_empty() {
         return Ok(String::new(alloc));
     }
-    match filled::<Brand>(alloc, case.text.as_bytes(), Blank::new(1)) {
-        Ok(board) => lines_of(alloc, &board, &case.questions),
+    match filled_lines(alloc, case) {
+        Ok(lines) => Ok(lines),
         Err(Stop::Memory) => String::from_str(alloc, "  out of memory\n"),
         Err(Stop::Refused) => String::from_str(alloc, "  refused\n"),
     }

@@ -6,7 +6,7 @@ use Rattle.std.proofs.lemmas.Bool.Decides.{Decides-eqb}
 use Rattle.std.proofs.lemmas.List.{drop_more, drop_all, drop-drop, get_or-drop, get_or-set_same, get_or-set_other, get_or-replicate, length-replicate}
 use Rattle.fill_rules.specs.Nodes.{passing_places, firsts_from}
 use Rattle.output_rules.specs.Reported.{members_of}
-use Rattle.fill_text.specs.Inner.Alike.{AreLabels, place_of, IsNextNumber}
+use Rattle.fill_text.specs.Inner.Alike.{AreSmallLabels, place_of, IsNextNumber}
 
 one_of_two : (t : Bool) → (t ≡ true) ⊎ (t ≡ false)
 one_of_two true = inl refl
@@ -75,7 +75,7 @@ next_none labels count seen next e s n = record {
   next_at = λ j l m. absurd (omega (arith, e, l, m));
 }
 
-module _ (labels seen next : List ℕ) (rank : ℕ) (up : AreLabels labels) (some : 0 < rank) (h : IsNextFrom labels rank seen next) where
+module _ (labels seen next : List ℕ) (rank : ℕ) (up : AreSmallLabels labels) (some : 0 < rank) (h : IsNextFrom labels rank seen next) where
   abbrev k : ℕ
   k = rank - 1
 
@@ -130,7 +130,7 @@ pub record IsWalking (labels : List ℕ) (label at : ℕ) (members : List ℕ) :
   pub rest : members ++ passing_places (λ (o : ℕ). o == label) at (drop at labels) ≡ members_of labels label
   pub same : at < length labels → get_or labels at 0 ≡ label
 
-pub walk_begun : (labels members : List ℕ) (label : ℕ) → AreLabels labels → label < length labels → get_or labels label 0 ≡ label → members ≡ [] → IsWalking labels label label members
+pub walk_begun : (labels members : List ℕ) (label : ℕ) → AreSmallLabels labels → label < length labels → get_or labels label 0 ≡ label → members ≡ [] → IsWalking labels label label members
 walk_begun labels members label up l e n =
     let p : place_of label labels ≡ label = place_is label label labels l e (λ j m f. let u = up j (omega (arith, m, l)) in absurd (omega (arith, u, m, f))) in
     record {

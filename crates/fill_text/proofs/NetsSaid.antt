@@ -20,12 +20,12 @@ use Rattle.fill_rules.specs.Clusters.{option_or_zero, node_net, net_anchors, Are
 use Rattle.output_rules.specs.Laws.{NetsLaw}
 use Rattle.output_rules.specs.Report.{NetLines, unjoined}
 use Rattle.output_rules.specs.Reported.{nets_of, net_lines, net_at, labels_of, members_of, line_of_pair, AreNetLines}
-use Rattle.fill_text.specs.Inner.Alike.{AreLabels}
+use Rattle.fill_text.specs.Inner.Alike.{AreSmallLabels}
 use Rattle.fill_text.specs.Inner.Nets.{AreEachOnce, AreLinesOfNet}
 use Rattle.fill_text.proofs.Once.{same_once}
 
 -- no label is greater than its node's number
-pub labels_up : (b : Board) (fills : List Made) (labels : List ℕ) → AreClusters b fills labels → AreLabels labels
+pub labels_up : (b : Board) (fills : List Made) (labels : List ℕ) → AreClusters b fills labels → AreSmallLabels labels
 labels_up b fills labels h k l = (h.least k l).least k (reaches_self (AreJoinedAt b fills) k)
 
 -- the nets of a report are those of its nodes, upward and each once

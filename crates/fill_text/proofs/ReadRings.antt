@@ -15,7 +15,7 @@ use Rattle.board_language.specs.Reading.{board_of}
 use Rattle.edit_language.specs.Edited.{IsBoardOf}
 use Rattle.edit_language.proofs.OneRoot.{one_root}
 use Rattle.output_rules.specs.Output.{layer_name}
-use Rattle.fill_text.specs.FillLists.{bad_among, names_in, rings_on, zones_in, no_list, bad_of_zone}
+use Rattle.fill_text.specs.FillLists.{bad_among, names_of_set, rings_on, zones_in, no_list, bad_of_zone}
 use Rattle.fill_text.proofs.ZoneLists.{zone_lists}
 use Rattle.fill_text.proofs.TasksSaid.{item_more}
 
@@ -49,12 +49,12 @@ module _ (bytes : List ℕ) (root : Item) (rules : Rules) (b : Board) (zones : L
         ∙ get_or-map (zone_of (context_of bytes root)) (zones_in bytes root) k no_list z in_lists
 
     -- the zone's fills that can't be read, as they are found
-    pub bad_is : (z : Zone) → z ≡ get_or b.zones k z → bad_among p.bytes (names_in b.layers z.layers) p.item ≡ bad_of_zone (context_of bytes root) (get_or (zones_in bytes root) k no_list)
+    pub bad_is : (z : Zone) → z ≡ get_or b.zones k z → bad_among p.bytes (names_of_set b.layers z.layers) p.item ≡ bad_of_zone (context_of bytes root) (get_or (zones_in bytes root) k no_list)
     unfolding context_of
     bad_is z e =
-        ap (λ (q : Part). bad_among q.bytes (names_in b.layers z.layers) q.item) part_is
-        ∙ ap (λ (y : Zone). bad_among bytes (names_in b.layers y.layers) (get_or (zones_in bytes root) k no_list)) (zone_is z e)
-        ∙ ap (λ ls. bad_among bytes (names_in ls (zone_of (context_of bytes root) (get_or (zones_in bytes root) k no_list)).layers) (get_or (zones_in bytes root) k no_list))
+        ap (λ (q : Part). bad_among q.bytes (names_of_set b.layers z.layers) q.item) part_is
+        ∙ ap (λ (y : Zone). bad_among bytes (names_of_set b.layers y.layers) (get_or (zones_in bytes root) k no_list)) (zone_is z e)
+        ∙ ap (λ ls. bad_among bytes (names_of_set ls (zone_of (context_of bytes root) (get_or (zones_in bytes root) k no_list)).layers) (get_or (zones_in bytes root) k no_list))
         (ap (λ (c : Board). c.layers) is ∙ layers_are bytes root rules)
 
     -- the rings of a task, as they are read

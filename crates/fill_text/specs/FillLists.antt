@@ -37,12 +37,12 @@ items_behind None = []
 items_behind (Some list) = behind_head list
 
 -- the corners are the items of the fill's `pts`; a fill without `pts` has none
-abbrev pub corners_of : List ℕ → Item → List Item
-corners_of bytes fill = items_behind (list_of bytes (codes "pts") fill)
+abbrev pub corner_items : List ℕ → Item → List Item
+corner_items bytes fill = items_behind (list_of bytes (codes "pts") fill)
 
 -- the ring along the corners, in nanometres
 abbrev pub ring_of : List ℕ → Item → List Point
-ring_of bytes fill = map (λ corner. point_at bytes (Some corner)) (corners_of bytes fill)
+ring_of bytes fill = map (λ corner. point_at bytes (Some corner)) (corner_items bytes fill)
 
 -- ---- the layer of a fill
 
@@ -51,27 +51,27 @@ abbrev pub layer_of : List ℕ → Item → Option Name
 layer_of bytes fill = option_and_then (text_at bytes 0) (list_of bytes (codes "layer") fill)
 
 -- a name that may be absent is one of these
-abbrev pub is_one_of : List Name → Option Name → Bool
-is_one_of names None = false
-is_one_of names (Some name) = is_among names name
+abbrev pub is_some_name : List Name → Option Name → Bool
+is_some_name names None = false
+is_some_name names (Some name) = is_among names name
 
 -- of the board's layers the names of those in the set
-abbrev pub names_in : List Name → ℕ → List Name
-names_in layers set = map (λ l. get_or layers l []) (layers_below set (length layers))
+abbrev pub names_of_set : List Name → ℕ → List Name
+names_of_set layers set = map (λ l. get_or layers l []) (layers_below set (length layers))
 
 -- ---- the fills of a zone
 
 -- a fill can be read where it is on one of the layers with these names and each of its corners can be read
 abbrev pub can_be_read : List ℕ → List Name → Item → Bool
-can_be_read bytes names fill = is_one_of names (layer_of bytes fill) && list_all (is_corner bytes) (corners_of bytes fill)
+can_be_read bytes names fill = is_some_name names (layer_of bytes fill) && list_all (is_corner bytes) (corner_items bytes fill)
 
 -- a fill that can't be read
 abbrev pub is_bad : List ℕ → List Name → Item → Bool
 is_bad bytes names list = is_headed bytes (codes "filled_polygon") list && not (can_be_read bytes names list)
 
 -- a fill on the layer of this name
-abbrev pub is_on : List ℕ → Name → Item → Bool
-is_on bytes name list = is_headed bytes (codes "filled_polygon") list && is_text name (layer_of bytes list)
+abbrev pub is_fill_on : List ℕ → Name → Item → Bool
+is_fill_on bytes name list = is_headed bytes (codes "filled_polygon") list && is_text name (layer_of bytes list)
 
 -- the fills of a zone on the layers with these names that can't be read, in file order
 abbrev pub bad_among : List ℕ → List Name → Item → List Item
@@ -79,7 +79,7 @@ bad_among bytes names zone = filter (is_bad bytes names) (children_of zone)
 
 -- the rings of its fills on a layer, in file order
 abbrev pub rings_on : List ℕ → Name → Item → List (List Point)
-rings_on bytes name zone = map (ring_of bytes) (filter (is_on bytes name) (children_of zone))
+rings_on bytes name zone = map (ring_of bytes) (filter (is_fill_on bytes name) (children_of zone))
 
 -- ---- the zones
 
@@ -93,7 +93,7 @@ zones_in bytes root = filter (is_copper_zone (context_of bytes root)) (lists_of 
 
 -- the names of the layers that a zone is on
 abbrev pub names_of_zone : Context → Item → List Name
-names_of_zone c zone = names_in c.copper (zone_of c zone).layers
+names_of_zone c zone = names_of_set c.copper (zone_of c zone).layers
 
 -- of a zone's fills those that can't be read, in file order
 abbrev pub bad_of_zone : Context → Item → List Item

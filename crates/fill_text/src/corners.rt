@@ -5,7 +5,7 @@ ghost use Rattle.grid_num.specs.Length.{IsInRange};
 ghost use Rattle.board_text.specs.Items.{point_at};
 ghost use Rattle.board_text.specs.Lists.{behind_head};
 ghost use Rattle.rings.specs.Rings.{IsRingInRange};
-ghost use Rattle.fill_text.specs.FillLists.{is_corner, corners_of, ring_of};
+ghost use Rattle.fill_text.specs.FillLists.{is_corner, corner_items, ring_of};
 
 use board_text::Part;
 use grid_num::{Memory, Point};
@@ -38,7 +38,7 @@ fn are_corners(alloc: Global, points: &Part<'_>) -> Result<bool, Memory>
 ///
 /// Want of memory.
 pub fn has_corners(alloc: Global, fill: &Part<'_>) -> Result<bool, Memory>
-    ensures { IfOk result (λ yes. yes ≡ list_all (is_corner fill.now.bytes) (corners_of fill.now.bytes fill.now.item)) }
+    ensures { IfOk result (λ yes. yes ≡ list_all (is_corner fill.now.bytes) (corner_items fill.now.bytes fill.now.item)) }
 {
     match fill.list(b"pts") {
         Some(points) => are_corners(alloc, &points),

@@ -3,7 +3,7 @@ ghost use Rattle.std.specs.Prelude.{◌≡◌, ◌≤◌, ◌<◌, ◌&&◌, [],
 ghost use Rattle.std.specs.Str.{bytes_eq};
 ghost use Rattle.board_text.specs.Layers.{is_among};
 ghost use Rattle.board_language.specs.Copper.{has_layer};
-ghost use Rattle.fill_text.specs.FillLists.{layer_of, is_one_of, names_in};
+ghost use Rattle.fill_text.specs.FillLists.{layer_of, is_some_name, names_of_set};
 
 use board_language::Name;
 use board_text::Part;
@@ -38,7 +38,7 @@ fn is_named(layers: &[Name], set: u32, layer: u8, name: &[u8]) -> bool
 // Whether this is the name of one of the layers in the set.
 fn is_among(layers: &[Name], set: u32, name: &[u8]) -> bool
     requires { length layers.now ≤ 32 }
-    ensures { result ≡ is_among (names_in layers.now set) name.now }
+    ensures { result ≡ is_among (names_of_set layers.now set) name.now }
 {
     let mut found = false;
     'each: for layer in 0..layers.len() as u8 {
@@ -60,7 +60,7 @@ pub fn is_on_one_of(
     fill: &Part<'_>,
 ) -> Result<bool, Memory>
     requires { length layers.now ≤ 32 }
-    ensures { IfOk result (λ yes. yes ≡ is_one_of (names_in layers.now set) (layer_of fill.now.bytes fill.now.item)) }
+    ensures { IfOk result (λ yes. yes ≡ is_some_name (names_of_set layers.now set) (layer_of fill.now.bytes fill.now.item)) }
 {
     match layer_of(alloc, fill)? {
         Some(name) => Ok(is_among(layers, set, &name)),

@@ -3,7 +3,7 @@ ghost use Rattle.std.specs.Prelude.{◌≡◌, ◌≤◌, [], length, codes, IfO
 ghost use Rattle.std.specs.List.{All};
 ghost use Rattle.sexpr_text.specs.Items.{is_headed};
 ghost use Rattle.rings.specs.Rings.{IsRingInRange};
-ghost use Rattle.fill_text.specs.FillLists.{is_bad, is_on, bad_among, names_in, rings_on};
+ghost use Rattle.fill_text.specs.FillLists.{is_bad, is_fill_on, bad_among, names_of_set, rings_on};
 ghost use Rattle.fill_text.specs.Refused.{IsRefusedFor};
 
 use crate::corners::{has_corners, ring_of};
@@ -25,7 +25,7 @@ fn is_fill(list: &Part<'_>) -> bool
 // Whether a list of a zone on the layers in the set is a fill that can't be read.
 fn is_bad(alloc: Global, layers: &[Name], set: u32, list: &Part<'_>) -> Result<bool, Memory>
     requires { length layers.now ≤ 32 }
-    ensures { IfOk result (λ yes. yes ≡ is_bad list.now.bytes (names_in layers.now set) list.now.item) }
+    ensures { IfOk result (λ yes. yes ≡ is_bad list.now.bytes (names_of_set layers.now set) list.now.item) }
 {
     if !is_fill(list) {
         return Ok(false);
@@ -36,8 +36,8 @@ fn is_bad(alloc: Global, layers: &[Name], set: u32, list: &Part<'_>) -> Result<b
 }
 
 // Whether a list is a fill on the layer of this name.
-fn is_on(alloc: Global, name: &[u8], list: &Part<'_>) -> Result<bool, Memory>
-    ensures { IfOk result (λ yes. yes ≡ is_on list.now.bytes name.now list.now.item) }
+fn is_fill_on(alloc: Global, name: &[u8], list: &Part<'_>) -> Result<bool, Memory>
+    ensures { IfOk result (λ yes. yes ≡ is_fill_on list.now.bytes name.now list.now.item) }
 {
     if !is_fill(list) {
         return Ok(false);
@@ -53,8 +53,8 @@ fn is_on(alloc: Global, name: &[u8], list: &Part<'_>) -> Result<bool, Memory>
 /// Want of memory, or the first fill that can't be read.
 pub fn try_zone(alloc: Global, layers: &[Name], set: u32, zone: &Part<'_>) -> Result<(), FillsError>
     requires { length layers.now ≤ 32 }
-    ensures read { IfOk result (λ _. bad_among zone.now.bytes (names_in layers.now set) zone.now.item ≡ []) }
-    ensures bad { IfErr result (IsRefusedFor (bad_among zone.now.bytes (names_in layers.now set) zone.now.item)) }
+    ensures read { IfOk result (λ _. bad_among zone.now.bytes (names_of_set layers.now set) zone.now.item ≡ []) }
+    ensures bad { IfErr result (IsRefusedFor (bad_among zone.now.bytes (names_of_set layers.now set) zone.now.item)) }
 {
     'each: for place in 0..zone.len() {
         let list = zone.child(place);
@@ -79,7 +79,7 @@ pub fn rings_on(alloc: Global, name: &[u8], zone: &Part<'_>) -> Result<Vec<Ring>
     let mut rings = Vec::new(alloc);
     'each: for place in 0..zone.len() {
         let list = zone.child(place);
-        if is_on(alloc, name, &list)? {
+        if is_fill_on(alloc, name, &list)? {
             rings.push(ring_of(alloc, &list)?)?;
         }
     }

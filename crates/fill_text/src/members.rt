@@ -2,7 +2,7 @@
 ghost use Rattle.std.specs.Prelude.{◌≡◌, ◌==◌, ◌&&◌, ◌<◌, length, map, get_or, filter, IfOk};
 ghost use Rattle.fill_rules.specs.Nodes.{firsts_from};
 ghost use Rattle.output_rules.specs.Reported.{members_of};
-ghost use Rattle.fill_text.specs.Inner.Alike.{AreLabels, IsNextNumber};
+ghost use Rattle.fill_text.specs.Inner.Alike.{AreSmallLabels, IsNextNumber};
 
 use grid_num::Memory;
 use output_rules::Cluster;
@@ -10,7 +10,7 @@ use std::alloc::Global;
 
 /// For each place the next one with the same label; the number of labels where there is none.
 pub fn next_alike(alloc: Global, labels: &[u32]) -> Result<Vec<u32>, Memory>
-    requires { AreLabels labels.now }
+    requires { AreSmallLabels labels.now }
     ensures { IfOk result (λ next. IsNextNumber labels.now next.items) }
 {
     let count = u32::try_from(labels.len()).map_err(|_| Memory)?;
@@ -34,7 +34,7 @@ pub fn clusters_of(
     next: &[u32],
     net: u32,
 ) -> Result<Vec<Cluster>, Memory>
-    requires labels { AreLabels labels.now }
+    requires labels { AreSmallLabels labels.now }
     requires next { IsNextNumber labels.now next.now }
     requires nets { length nets.now ≡ length labels.now }
     ensures { IfOk result (λ v. v.items ≡ map (members_of labels.now) (filter (λ k. get_or nets.now k 0 == net) (firsts_from 0 labels.now))) }
@@ -57,7 +57,7 @@ fn is_first(label: u32, k: usize, own: u32, net: u32) -> bool
 
 // The nodes with this label, which is the least of them.
 fn cluster_of(alloc: Global, labels: &[u32], next: &[u32], label: u32) -> Result<Cluster, Memory>
-    requires labels { AreLabels labels.now }
+    requires labels { AreSmallLabels labels.now }
     requires next { IsNextNumber labels.now next.now }
     requires there { label < length labels.now }
     requires first { get_or labels.now label 0 ≡ label }

@@ -173,7 +173,7 @@ fn bands_begin_where_plain_rows_begin_them(rt: HostRuntime) -> Result<(), Fail> 
     Ok(())
 }
 
-// `bench/cells_left.py` puts the bands of the same set together row by row.
+// `bench/expected/cells.py` puts the bands of the same set together row by row.
 #[test]
 fn forty_octagons_leave_the_cells_of_a_script(rt: HostRuntime) -> Result<(), Fail> {
     let a = rt.alloc();

@@ -1,4 +1,4 @@
-// What no clause says: the clauses' own words on numbers from outside. The table comes from bench/touching_table.py, which
+// What no clause says: the clauses' own words on numbers from outside. The table comes from bench/expected/touching.py, which
 // finds the least distances in exact fractions, by the hull of all differences of two cores' corners.
 ghost use Rattle.std.specs.Prelude.{◌≤◌, pos, ◌≤ℤ◌};
 ghost use Rattle.octagon.specs.Bounded.{IsInReach};

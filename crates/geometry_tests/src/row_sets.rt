@@ -155,7 +155,7 @@ fn common_points_count_once(rt: HostRuntime) -> Result<(), Fail> {
     Ok(())
 }
 
-// `bench/points_left.py` counts the same set row by row.
+// `bench/expected/points.py` counts the same set row by row.
 #[test]
 fn forty_octagons_leave_what_a_script_counts(rt: HostRuntime) -> Result<(), Fail> {
     let a = rt.alloc();

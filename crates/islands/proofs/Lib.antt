@@ -1,5 +1,6 @@
 pub mod PartLaws
 pub mod Members
-pub mod Flooding
+pub mod FirstPlaces
+pub mod Stacked
 pub mod Marking
 pub mod Crossings

@@ -1,2 +1,2 @@
-pub mod Flood
+pub mod Firsts
 pub mod Marks

@@ -6,12 +6,13 @@
 ghost use Rattle.islands.specs.Laws.{PartsLaw, OnePartsLaw};
 
 mod edges;
-mod flood;
+mod firsts;
 mod held;
+mod labels;
 
 pub use edges::inside;
-pub use flood::parts;
 pub use held::kept;
+pub use labels::parts;
 
 /// Two octagons have one label exactly where they are in one part, and a list of octagons has at most one list of labels.
 pub fn parts_law()

@@ -17,7 +17,7 @@ use Rattle.fill_rules.specs.Tasks.{Task, settings_of, task_zone, zone_at, ranked
 use Rattle.fill_rules.specs.Needs.{zone_need}
 use Rattle.fill_rules.specs.Ranking.{Outranks, IsSortedBy}
 use Rattle.fill_rules.proofs.Ranking.{ranked_is}
-use Rattle.knockouts.specs.Reaching.{ReachesTask, RanksLaw}
+use Rattle.knockouts.specs.Reaching.{ReachesTask, ReachByRankLaw}
 use Rattle.knockouts.specs.Inner.Above.{IsAboveForeign}
 
 -- ---- near or not
@@ -85,7 +85,7 @@ above_ranks b j i lj li o = elim (cases_lt j i) [
   ]
 ]
 
-pub ranks_law : RanksLaw
+pub ranks_law : ReachByRankLaw
 unfolding zone_at
 ranks_law b j i lj li = (
   λ r. record { above = ranks_above b j i r.above li; layer = r.layer; foreign = r.foreign; near = r.near },

@@ -17,5 +17,5 @@ pub record ReachesTask (b : Board) (s t : Task) : Type 0 where
   pub near : AreNear (zone_need b (settings_of (task_zone b s)) (settings_of (task_zone b t))) (around (task_zone b t).outline) (around (task_zone b s).outline)
 
 -- by their ranks it is the same
-abbrev pub RanksLaw : Type 0
-RanksLaw = (b : Board) (j i : ℕ) → j < length (ranked b) → i < length (ranked b) → IsReaching b j i ↔ ReachesTask b (task_at b j) (task_at b i)
+abbrev pub ReachByRankLaw : Type 0
+ReachByRankLaw = (b : Board) (j i : ℕ) → j < length (ranked b) → i < length (ranked b) → IsReaching b j i ↔ ReachesTask b (task_at b j) (task_at b i)

@@ -1,12 +1,12 @@
 //! What the answers mean to the layer above. Nothing here runs.
 ghost use Rattle.knockouts.specs.Clear.{ClearByBarsLaw, NeedRangeLaw};
 ghost use Rattle.knockouts.specs.Gaps.{GapsLaw, OneGapLaw};
-ghost use Rattle.knockouts.specs.Reaching.{RanksLaw};
+ghost use Rattle.knockouts.specs.Reaching.{ReachByRankLaw};
 ghost use Rattle.knockouts.specs.Rows.{NeedsRow};
 
 /// A task reaches another by their ranks exactly where it reaches it as a task.
 pub fn ranks_law()
-    ensures { RanksLaw }
+    ensures { ReachByRankLaw }
 {}
 
 /// The gaps that stand last among the needs are a quarter as many as the spokes, pad by pad: one round each pad that is joined

@@ -15,7 +15,7 @@ use Rattle.classes.specs.Classes.{IsOneOf}
 use Rattle.strips.specs.declared.Strip.{Strip}
 use Rattle.strips.specs.Strips.{HasInside, AreCovering, in_nanometres}
 use Rattle.strips.specs.Area.{area2_of}
-use Rattle.stacks.specs.Stacks.{IsInSome, HaveSameUnion}
+use Rattle.stacks.specs.Stacks.{HaveSameUnion}
 use Rattle.any_strips.specs.Laws.{AnyOutlinesLaw}
 use Rattle.rings.specs.Outlines.{AreOutlines}
 use Rattle.rings.specs.Rings.{Traced, IsRingInRange}
@@ -73,14 +73,14 @@ one_from_units (x ∷ pieces) p (o, inl e, h) =
 one_from_units (x ∷ pieces) p (o, inr i, h) = any_tail (λ b. In b p) (times 2 x) (in_nanometres pieces) (one_from_units pieces p (o, i, h))
 
 -- so two lists with the same points have the same points in nanometres
-some_to_units : (os : List Bounds) (p : PlanePoint) → IsInSome (in_nanometres os) p → IsInSome os (nm_in_units p)
+some_to_units : (os : List Bounds) (p : PlanePoint) → Any (λ b. In b p) (in_nanometres os) → Any (λ b. In b (nm_in_units p)) os
 some_to_units [] p a = absurd (any_none (λ b. In b p) a)
 some_to_units (o ∷ os) p a = elim (any_cases (λ b. In b p) (times 2 o) (in_nanometres os) a) [
   | inl h ↦ any_head (λ b. In b (nm_in_units p)) o os ((to_units o p).0 h)
   | inr h ↦ any_tail (λ b. In b (nm_in_units p)) o os (some_to_units os p h)
 ]
 
-some_from_units : (os : List Bounds) (p : PlanePoint) → IsInSome os (nm_in_units p) → IsInSome (in_nanometres os) p
+some_from_units : (os : List Bounds) (p : PlanePoint) → Any (λ b. In b (nm_in_units p)) os → Any (λ b. In b p) (in_nanometres os)
 some_from_units [] p a = absurd (any_none (λ b. In b (nm_in_units p)) a)
 some_from_units (o ∷ os) p a = elim (any_cases (λ b. In b (nm_in_units p)) o os a) [
   | inl h ↦ any_head (λ b. In b p) (times 2 o) (in_nanometres os) ((to_units o p).1 h)

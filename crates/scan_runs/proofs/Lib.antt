@@ -2,8 +2,8 @@ pub mod Small
 pub mod Lines
 pub mod EndLaws
 pub mod Merging
+pub mod Walk
 pub mod PartLaws
-pub mod Places
 pub mod StripLaws
 pub mod SpanLaws
 pub mod Greedy

@@ -5,7 +5,7 @@ use Rattle.std.proofs.lemmas.Int.{ints}
 use Rattle.plane.specs.Plane.{Bounds, Within, IsTight}
 use Rattle.plane.proofs.Sum.{between3}
 use Rattle.grid_sets.specs.Bands.{place_after, reach}
-use Rattle.scan_runs.specs.Inner.Lines.{AreEndsApart, IsLesserEnd, IsGreaterEnd, IsLeftEnd, IsRightEnd, IsAlong, IsAbsent}
+use Rattle.scan_runs.specs.Inner.Lines.{AreEndsApart, IsGreaterEnd, IsLeftEnd, IsRightEnd, IsAlong, IsAbsent}
 use Rattle.grid_sets.specs.declared.Move.{Move}
 use Rattle.grid_sets.specs.declared.Move.TheVariants.{Left, Still, Right}
 use Rattle.grid_sets.specs.declared.End.{End}
@@ -26,12 +26,6 @@ ends-AreEndsApart n g e f h i = record { each = λ k l. between e.go f.go e.plac
 
 pub AreEndsApart-same : (n : ℕ) (e : End) → AreEndsApart n (pos 0) e e
 AreEndsApart-same n e = record { each = λ k l. omega (arith, ints) }
-
-pub first-IsLesserEnd : (n : ℕ) (e f : End) → AreEndsApart n (pos 0) e f → IsLesserEnd n e f e
-first-IsLesserEnd n e f h = record { first = AreEndsApart-same n e; second = h; is = inl refl }
-
-pub second-IsLesserEnd : (n : ℕ) (e f : End) → AreEndsApart n (pos 0) f e → IsLesserEnd n e f f
-second-IsLesserEnd n e f h = record { first = h; second = AreEndsApart-same n f; is = inr refl }
 
 pub first-IsGreaterEnd : (n : ℕ) (e f : End) → AreEndsApart n (pos 0) f e → IsGreaterEnd n e f e
 first-IsGreaterEnd n e f h = record { first = AreEndsApart-same n e; second = h; is = inl refl }

@@ -1,73 +1,16 @@
--- Inserting a run among runs, and rows below rows.
+-- Runs that touch, and rows below rows.
 use Rattle.std.proofs.Common.{◌≡◌, refl, sym, ap, subst, ◌⊎◌, inl, inr, ℕ, zero, suc, ◌+◌, ◌≤◌, ◌<◌, List, [], ◌∷◌, ◌++◌, map, arith}
 use Rattle.std.specs.Prelude.{ℤ, pos, negsuc, ◌+ℤ◌, ◌-ℤ◌, ◌≤ℤ◌, ◌↔◌}
 use Rattle.std.proofs.lemmas.Int.{ints, by_lt_z}
-use Rattle.grid_sets.specs.Rows.{Run, IsOnRun, OnRuns, AscendingRuns, Row, OnRows, AreMaximalRuns, Descending}
+use Rattle.grid_sets.specs.Rows.{Run, IsOnRun, OnRuns, Row, OnRows, AreMaximalRuns, Descending}
 use Rattle.grid_sets.specs.Bands.{run_down, reach, Band, rows_from, rows_of}
-use Rattle.grid_sets.proofs.Unique.{on_from}
 use Rattle.grid_sets.proofs.OnBands.{on_band, band_on, on_rows}
 use Rattle.plane.specs.Plane.{Bounds, Within}
 use Rattle.grid_sets.specs.Points.{HasPoint}
-use Rattle.scan_runs.specs.Inner.Lines.{AreEndsApart, IsLesserEnd, IsGreaterEnd}
-use Rattle.scan_runs.specs.Inner.Merge.{AreSorted, IsInserted, IsPutIn, IsUnionOfRuns, AreRowsBetween, AreStraight}
+use Rattle.scan_runs.specs.Inner.Lines.{AreEndsApart, IsGreaterEnd}
+use Rattle.scan_runs.specs.Inner.Merge.{IsUnionOfRuns, AreRowsBetween, AreStraight}
 use Rattle.grid_sets.specs.declared.End.{End}
 use Rattle.grid_sets.specs.declared.Slant.{Slant}
-
-raise : (l m : ℤ) (rs : List Run) → AscendingRuns l rs → ((x : ℤ) → OnRuns rs x → m ≤ℤ x) → AscendingRuns m rs
-raise l m [] a f = tt
-raise l m (r ∷ rs) a f = (f r.from (inl (record { low = omega (arith, ints); high = a.1 })), a.1, a.2)
-
-abbrev pub tail_sorted : (r : Run) (rs : List Run) → AreSorted (r ∷ rs) → AreSorted rs
-tail_sorted r rs a = record { low = r.to +ℤ pos 2; ascending = a.ascending.2 }
-
--- ---- the four cases of an insertion, from the left
-pub insert_alone : (r : Run) → IsInserted r [] (r ∷ [])
-insert_alone r a h = record {
-  sorted = record { low = r.from; ascending = (omega (arith, ints), h, tt) };
-  same = λ x. (λ k. elim k [ inl w ↦ inr w | inr e ↦ absurd e ], λ k. elim k [ inl e ↦ absurd e | inr w ↦ inl w ]);
-}
-
--- the first run is before the new one
-pub insert_later : (rs new : List Run) (t r : Run) → (t.to +ℤ pos 2) ≤ℤ r.from → IsInserted r rs new → IsInserted r (t ∷ rs) (t ∷ new)
-insert_later rs new t r g f a h =
-    let w = f (tail_sorted t rs a) h in
-    record {
-      sorted = record {
-        low = a.low;
-        ascending = (
-          a.ascending.0,
-          a.ascending.1,
-          raise w.sorted.low (t.to +ℤ pos 2) new w.sorted.ascending (λ x k. elim ((w.same x).0 k) [
-            | inl m ↦ on_from (t.to +ℤ pos 2) rs x a.ascending.2 m
-            | inr v ↦ omega (arith, ints, v.low)
-          ]),
-        );
-      };
-      same = λ x. (
-        λ k. elim k [ inl v ↦ inl (inl v) | inr m ↦ elim ((w.same x).0 m) [ inl o ↦ inl (inr o) | inr v ↦ inr v ] ],
-        λ k. elim k [ inl m ↦ elim m [ inl v ↦ inl v | inr o ↦ inr ((w.same x).1 (inl o)) ] | inr v ↦ inr ((w.same x).1 (inr v)) ],
-      );
-    }
-
--- the first run is after it
-pub insert_first : (rs : List Run) (t r : Run) → (r.to +ℤ pos 2) ≤ℤ t.from → IsInserted r (t ∷ rs) (r ∷ t ∷ rs)
-insert_first rs t r g a h = record {
-  sorted = record { low = r.from; ascending = (omega (arith, ints), h, (g, a.ascending.1, a.ascending.2)) };
-  same = λ x. (λ k. elim k [ inl v ↦ inr v | inr m ↦ inl m ], λ k. elim k [ inl m ↦ inr m | inr v ↦ inl v ]);
-}
-
--- the first run and the new one are one
-pub insert_joint : (rs new : List Run) (t r j : Run) → (t.from ≤ℤ t.to → r.from ≤ℤ r.to → j.from ≤ℤ j.to)
-    → ((x : ℤ) → IsOnRun j x ↔ (IsOnRun t x ⊎ IsOnRun r x)) → IsInserted j rs new → IsInserted r (t ∷ rs) new
-insert_joint rs new t r j b s f a h =
-    let w = f (tail_sorted t rs a) (b a.ascending.1 h) in
-    record {
-      sorted = w.sorted;
-      same = λ x. (
-        λ k. elim ((w.same x).0 k) [ inl o ↦ inl (inr o) | inr v ↦ elim ((s x).0 v) [ inl u ↦ inl (inl u) | inr u ↦ inr u ] ],
-        λ k. (w.same x).1 (elim k [ inl m ↦ elim m [ inl u ↦ inr ((s x).1 (inl u)) | inr o ↦ inl o ] | inr u ↦ inr ((s x).1 (inr u)) ]),
-      );
-    }
 
 pub has_end : (os : List Bounds) (o : Bounds) (x y : ℤ) → HasPoint (os ++ o ∷ []) x y ↔ (HasPoint os x y ⊎ Within o x y)
 has_end [] o x y = (λ h. elim h [ inl w ↦ inr w | inr e ↦ absurd e ], λ h. elim h [ inl e ↦ absurd e | inr w ↦ inl w ])
@@ -77,15 +20,12 @@ has_end (a ∷ os) o x y =
       λ h. elim h [ inl k ↦ elim k [ inl w ↦ inl w | inr m ↦ inr (r.1 (inl m)) ] | inr w ↦ inr (r.1 (inr w)) ],
     )
 
--- two runs that touch are one
-joint_there : (a b c d f t x : ℤ) → c ≤ℤ (b +ℤ pos 1) → a ≤ℤ (d +ℤ pos 1) → f ≤ℤ x → x ≤ℤ t
-    → ((f ≡ a) ⊎ (f ≡ c)) → ((t ≡ b) ⊎ (t ≡ d)) → ((a ≤ℤ x) × (x ≤ℤ b)) ⊎ ((c ≤ℤ x) × (x ≤ℤ d))
-joint_there a b c d f t x cb ad fx xt ef et =
-    by_lt_z {P = ((a ≤ℤ x) × (x ≤ℤ b)) ⊎ ((c ≤ℤ x) × (x ≤ℤ d))} x a
+-- two runs that touch are one, which begins where the first one does
+joint_there : (a b c d t x : ℤ) → c ≤ℤ (b +ℤ pos 1) → a ≤ℤ x → x ≤ℤ t → ((t ≡ b) ⊎ (t ≡ d)) → ((a ≤ℤ x) × (x ≤ℤ b)) ⊎ ((c ≤ℤ x) × (x ≤ℤ d))
+joint_there a b c d t x cb ax xt et =
+    by_lt_z {P = ((a ≤ℤ x) × (x ≤ℤ b)) ⊎ ((c ≤ℤ x) × (x ≤ℤ d))} b x
     (λ l. inr (omega (arith, ints), omega (arith, ints)))
-    (λ l. by_lt_z {P = ((a ≤ℤ x) × (x ≤ℤ b)) ⊎ ((c ≤ℤ x) × (x ≤ℤ d))} b x
-    (λ m. inr (omega (arith, ints), omega (arith, ints)))
-    (λ m. inl (l, m)))
+    (λ l. inl (ax, l))
 
 -- ---- rows below rows
 rows_lower : (l m : ℤ) (rs : List Row) → l ≤ℤ m → Descending m rs → Descending l rs
@@ -129,25 +69,24 @@ band_rows P b k (suc n) f = (
 )
 
 -- ---- two slants that touch on each row
-joint_back : (a b c d f t x : ℤ) → f ≤ℤ a → f ≤ℤ c → b ≤ℤ t → d ≤ℤ t → ((a ≤ℤ x) × (x ≤ℤ b)) ⊎ ((c ≤ℤ x) × (x ≤ℤ d)) → (f ≤ℤ x) × (x ≤ℤ t)
-joint_back a b c d f t x fa fc bt dt (inl h) = (omega (arith, ints), omega (arith, ints))
-joint_back a b c d f t x fa fc bt dt (inr h) = (omega (arith, ints), omega (arith, ints))
+joint_back : (a b c d t x : ℤ) → a ≤ℤ c → b ≤ℤ t → d ≤ℤ t → ((a ≤ℤ x) × (x ≤ℤ b)) ⊎ ((c ≤ℤ x) × (x ≤ℤ d)) → (a ≤ℤ x) × (x ≤ℤ t)
+joint_back a b c d t x ac bt dt (inl h) = (omega (arith, ints), omega (arith, ints))
+joint_back a b c d t x ac bt dt (inr h) = (omega (arith, ints), omega (arith, ints))
 
 either : (k : ℕ) (e f m : End) → ((m ≡ e) ⊎ (m ≡ f)) → ((reach k m ≡ reach k e) ⊎ (reach k m ≡ reach k f))
 either k e f m (inl h) = inl (ap (λ (v : End). reach k v) h)
 either k e f m (inr h) = inr (ap (λ (v : End). reach k v) h)
 
-pub joint_law : (n : ℕ) (a b : Slant) (f t : End) → IsLesserEnd n a.from b.from f → IsGreaterEnd n a.to b.to t
-    → AreEndsApart n (negsuc 0) b.from a.to → AreEndsApart n (negsuc 0) a.from b.to → IsUnionOfRuns n a b (record { from = f; to = t })
-joint_law n a b f t l g u v = record {
-  filled = λ k i h j. through k (l.first.each k i) h (g.first.each k i);
+pub joint_law : (n : ℕ) (a b : Slant) (t : End) → AreEndsApart n (pos 0) a.from b.from → IsGreaterEnd n a.to b.to t
+    → AreEndsApart n (negsuc 0) b.from a.to → IsUnionOfRuns n a b (record { from = a.from; to = t })
+joint_law n a b t l g u = record {
+  filled = λ k i h j. through k h (g.first.each k i);
   same = λ k x i. (
-    λ h. parts k x (joint_there (reach k a.from) (reach k a.to) (reach k b.from) (reach k b.to) (reach k f) (reach k t) x
-        (one_off k (reach k b.from) (reach k a.to) (u.each k i)) (one_off k (reach k a.from) (reach k b.to) (v.each k i)) h.low h.high
-        (either k a.from b.from f l.is) (either k a.to b.to t g.is)),
-    λ h. whole k x (joint_back (reach k a.from) (reach k a.to) (reach k b.from) (reach k b.to) (reach k f) (reach k t) x
-        (none_off k (reach k f) (reach k a.from) (l.first.each k i)) (none_off k (reach k f) (reach k b.from) (l.second.each k i))
-        (none_off k (reach k a.to) (reach k t) (g.first.each k i)) (none_off k (reach k b.to) (reach k t) (g.second.each k i)) (apart_of k x h)),
+    λ h. parts k x (joint_there (reach k a.from) (reach k a.to) (reach k b.from) (reach k b.to) (reach k t) x
+        (one_off k (reach k b.from) (reach k a.to) (u.each k i)) h.low h.high (either k a.to b.to t g.is)),
+    λ h. whole k x (joint_back (reach k a.from) (reach k a.to) (reach k b.from) (reach k b.to) (reach k t) x
+        (none_off k (reach k a.from) (reach k b.from) (l.each k i)) (none_off k (reach k a.to) (reach k t) (g.first.each k i))
+        (none_off k (reach k b.to) (reach k t) (g.second.each k i)) (apart_of k x h)),
   );
 }
   where
@@ -157,8 +96,8 @@ joint_law n a b f t l g u v = record {
     none_off : (k : ℕ) (p q : ℤ) → (p +ℤ pos 0) ≤ℤ q → p ≤ℤ q
     none_off k p q h = omega (arith, ints)
 
-    through : (k : ℕ) → (reach k f +ℤ pos 0) ≤ℤ reach k a.from → reach k a.from ≤ℤ reach k a.to → (reach k a.to +ℤ pos 0) ≤ℤ reach k t → reach k f ≤ℤ reach k t
-    through k p q r = omega (arith, ints)
+    through : (k : ℕ) → reach k a.from ≤ℤ reach k a.to → (reach k a.to +ℤ pos 0) ≤ℤ reach k t → reach k a.from ≤ℤ reach k t
+    through k p q = omega (arith, ints)
 
     parts : (k : ℕ) (x : ℤ) → ((reach k a.from ≤ℤ x) × (x ≤ℤ reach k a.to)) ⊎ ((reach k b.from ≤ℤ x) × (x ≤ℤ reach k b.to)) → IsOnRun (run_down k a) x ⊎ IsOnRun (run_down k b) x
     parts k x (inl h) = inl (record { low = h.0; high = h.1 })
@@ -168,21 +107,8 @@ joint_law n a b f t l g u v = record {
     apart_of k x (inl h) = inl (h.low, h.high)
     apart_of k x (inr h) = inr (h.low, h.high)
 
-    whole : (k : ℕ) (x : ℤ) → (reach k f ≤ℤ x) × (x ≤ℤ reach k t) → IsOnRun (run_down k (record { from = f; to = t })) x
+    whole : (k : ℕ) (x : ℤ) → (reach k a.from ≤ℤ x) × (x ≤ℤ reach k t) → IsOnRun (run_down k (record { from = a.from; to = t })) x
     whole k x h = record { low = h.0; high = h.1 }
-
--- ---- on all rows at once
-pub put_alone : (n : ℕ) (s : Slant) → IsPutIn n s [] (s ∷ [])
-put_alone n s = record { each = λ k l. insert_alone (run_down k s) }
-
-pub put_later : (n : ℕ) (ss new : List Slant) (t s : Slant) → AreEndsApart n (pos 2) t.to s.from → IsPutIn n s ss new → IsPutIn n s (t ∷ ss) (t ∷ new)
-put_later n ss new t s a f = record { each = λ k l. insert_later (map (run_down k) ss) (map (run_down k) new) (run_down k t) (run_down k s) (a.each k l) (f.each k l) }
-
-pub put_first : (n : ℕ) (ss : List Slant) (t s : Slant) → AreEndsApart n (pos 2) s.to t.from → IsPutIn n s (t ∷ ss) (s ∷ t ∷ ss)
-put_first n ss t s a = record { each = λ k l. insert_first (map (run_down k) ss) (run_down k t) (run_down k s) (a.each k l) }
-
-pub put_joint : (n : ℕ) (ss new : List Slant) (t s j : Slant) → IsUnionOfRuns n t s j → IsPutIn n j ss new → IsPutIn n s (t ∷ ss) new
-put_joint n ss new t s j i f = record { each = λ k l. insert_joint (map (run_down k) ss) (map (run_down k) new) (run_down k t) (run_down k s) (run_down k j) (i.filled k l) (λ x. i.same k x l) (f.each k l) }
 
 -- ---- a stretch whose runs are straight is a band
 abbrev band : ℤ → ℕ → List Slant → Band

@@ -3,4 +3,4 @@ pub mod Grouping
 pub mod Lines
 pub mod Merge
 pub mod Parts
-pub mod Places
+pub mod Walk

@@ -2,7 +2,7 @@
 ghost use Rattle.std.specs.Prelude.{◌≡◌, ◌⊎◌, ℕ, ◌^◌, ◌≤◌, pos, ◌+ℤ◌, ◌≤ℤ◌, ◌<ℤ◌, IsTrue, IsNone, IfSome, false};
 ghost use Rattle.plane.specs.Narrow.{IsNearZero};
 ghost use Rattle.grid_sets.specs.Bands.{reach};
-ghost use Rattle.scan_runs.specs.Inner.Lines.{AreEndsApart, IsLesserEnd, IsGreaterEnd};
+ghost use Rattle.scan_runs.specs.Inner.Lines.{AreEndsApart, IsGreaterEnd};
 ghost use Rattle.scan_runs.specs.Inner.Ends.{IsSmallEnd, IsLeftFor, IsRightFor};
 
 use grid_sets::{End, Move};
@@ -124,23 +124,6 @@ fn leaves(a: i64, b: i64, gap: i64) -> bool
     ensures no { result ≡ false → b <ℤ (a +ℤ gap) }
 {
     a + gap <= b
-}
-
-// The end that is the lesser one on each row, if it is the same one.
-pub(crate) fn lesser_end(e: End, f: End, more: u64) -> Option<End>
-    requires e { IsSmallEnd e }
-    requires f { IsSmallEnd f }
-    requires more { more ≤ 2 ^ 42 }
-    ensures some { IfSome result (IsLesserEnd more e f) }
-    ensures none { IsNone result → 1 ≤ more }
-{
-    if is_apart(e, f, 0, more) {
-        return Some(e);
-    }
-    if is_apart(f, e, 0, more) {
-        return Some(f);
-    }
-    None
 }
 
 // The end that is the greater one on each row, if it is the same one.

@@ -1,94 +1,93 @@
-// Putting a run among the runs of a stretch, from left to right: those that it touches are joined to it.
-ghost use Rattle.std.specs.Prelude.{◌≡◌, ℕ, ◌^◌, ◌≤◌, IfOk, IfSome, IsNone};
-ghost use Rattle.scan_runs.specs.declared.merge.Place.TheVariants.{Waiting, Placed, Crossing};
-ghost use Rattle.scan_runs.specs.Inner.Parts.{IsSmallSlant, AreSmall, IsGoodInsertion};
-ghost use Rattle.scan_runs.specs.Inner.Places.{IsSmallPlace, IsStep, IsLast};
+// The runs of a stretch from its parts, from left to right: parts that touch are joined.
+ghost use Rattle.std.specs.Prelude.{◌≡◌, ℕ, ◌^◌, ◌≤◌, ℤ, ◌≤ℤ◌, All, IfOk, IfSome, IsNone};
+ghost use Rattle.std.specs.List.Sorted.{IsPermutation};
+ghost use Rattle.scan_runs.specs.Inner.Parts.{IsSmallSlant, IsPart};
+ghost use Rattle.scan_runs.specs.Inner.Walk.{begin_key, AreFromLeft, AreMerged, IsPut};
 
 use crate::relation::{Relation, related};
 use grid_num::Memory;
-use grid_sets::Slant;
+use grid_sets::{Move, Slant};
 use std::alloc::Global;
 
-// Where the new run is: not placed yet, placed, or it crosses another one on the stretch.
-#[derive(Clone, Copy)]
-pub(crate) enum Place {
-    Waiting(Slant),
-    Placed,
-    Crossing,
-}
-
-// The runs with the new one among them; None where they cross.
-pub(crate) fn inserted(
+// The maximal runs of the parts; None where two of the parts cross.
+pub(crate) fn merged(
     alloc: Global,
-    runs: &[Slant],
-    new: Slant,
+    parts: Vec<Slant>,
     more: u64,
 ) -> Result<Option<Vec<Slant>>, Memory>
-    requires runs { AreSmall runs.now }
-    requires new { IsSmallSlant new }
+    requires parts { All (λ s. IsPart more s) parts.items }
     requires more { more ≤ 2 ^ 42 }
-    ensures some { IfOk result (λ r. IfSome r (λ all. IsGoodInsertion more new runs.now all.items)) }
+    ensures some { IfOk result (λ r. IfSome r (λ runs. AreMerged more parts.items runs.items)) }
     ensures none { IfOk result (λ r. IsNone r → 1 ≤ more) }
 {
-    let mut out = Vec::new(alloc);
-    let mut place = Place::Waiting(new);
-    'runs: for run in runs {
-        place = step(&mut out, place, *run, more)?;
-    }
-    last(out, place)
+    walked(alloc, &from_left(parts), more)
 }
 
-// One run further.
-fn step(out: &mut Vec<Slant>, place: Place, run: Slant, more: u64) -> Result<Place, Memory>
-    requires place { IsSmallPlace place }
-    requires run { IsSmallSlant run }
-    requires more { more ≤ 2 ^ 42 }
-    ensures { IfOk result (λ next. IsStep more place run out.old.items out.new.items next) }
+// The parts by where they begin on the first row.
+fn from_left(mut parts: Vec<Slant>) -> Vec<Slant>
+    ensures order { IsPermutation parts.items result.items }
+    ensures sorted { AreFromLeft result.items }
 {
-    match place {
-        Place::Waiting(new) => passed(out, new, run, more),
-        Place::Placed => {
-            out.push(run)?;
-            Ok(Place::Placed)
+    parts.sort_unstable_by_key(|part| key_of(part));
+    parts
+}
+
+// What the parts are sorted by: where they begin on the first row, and of those that begin alike how they move on, so that
+// the first one begins before the others on each row.
+fn key_of(part: &Slant) -> i128
+    ensures { result ≡ begin_key part.now }
+{
+    let place = i128::from(part.from.place);
+    match part.from.go {
+        Move::Left => 3 * place - 1,
+        Move::Still => 3 * place,
+        Move::Right => 3 * place + 1,
+    }
+}
+
+// The maximal runs of parts that are in order. The last run is held back, since the next part may touch it.
+fn walked(alloc: Global, parts: &[Slant], more: u64) -> Result<Option<Vec<Slant>>, Memory>
+    requires parts { All (λ s. IsPart more s) parts.now }
+    requires order { AreFromLeft parts.now }
+    requires more { more ≤ 2 ^ 42 }
+    ensures some { IfOk result (λ r. IfSome r (λ runs. AreMerged more parts.now runs.items)) }
+    ensures none { IfOk result (λ r. IsNone r → 1 ≤ more) }
+{
+    let mut runs = Vec::new(alloc);
+    if parts.is_empty() {
+        return Ok(Some(runs));
+    }
+    let mut held = parts[0];
+    'parts: for i in 1..parts.len() {
+        match put_next(&mut runs, held, parts[i], more)? {
+            None => return Ok(None),
+            Some(next) => held = next,
         }
-        Place::Crossing => Ok(Place::Crossing),
     }
+    runs.push(held)?;
+    Ok(Some(runs))
 }
 
-// One run further, with the new one not placed yet.
-fn passed(out: &mut Vec<Slant>, new: Slant, run: Slant, more: u64) -> Result<Place, Memory>
-    requires new { IsSmallSlant new }
-    requires run { IsSmallSlant run }
+// One part further: the run that is held back from now on. None where the part crosses the one held back so far.
+fn put_next(
+    out: &mut Vec<Slant>,
+    held: Slant,
+    part: Slant,
+    more: u64,
+) -> Result<Option<Slant>, Memory>
+    requires held { IsSmallSlant held }
+    requires part { IsSmallSlant part }
+    requires left { held.from.place ≤ℤ part.from.place }
     requires more { more ≤ 2 ^ 42 }
-    ensures { IfOk result (λ next. IsStep more (Waiting new) run out.old.items out.new.items next) }
+    ensures some { IfOk result (λ r. IfSome r (IsPut more held part out.old.items out.new.items)) }
+    ensures none { IfOk result (λ r. IsNone r → 1 ≤ more) }
 {
-    match related(run, new, more) {
+    match related(held, part, more) {
         Relation::Before => {
-            out.push(run)?;
-            Ok(Place::Waiting(new))
+            out.push(held)?;
+            Ok(Some(part))
         }
-        Relation::After => {
-            out.push(new)?;
-            out.push(run)?;
-            Ok(Place::Placed)
-        }
-        Relation::Joint(both) => Ok(Place::Waiting(both)),
-        Relation::Crossing => Ok(Place::Crossing),
-    }
-}
-
-// At the end of the runs.
-fn last(out: Vec<Slant>, place: Place) -> Result<Option<Vec<Slant>>, Memory>
-    ensures some { IfOk result (λ r. IfSome r (λ all. IsLast place out.items all.items)) }
-    ensures none { IfOk result (λ r. IsNone r → place ≡ Crossing) }
-{
-    let mut out = out;
-    match place {
-        Place::Waiting(new) => {
-            out.push(new)?;
-            Ok(Some(out))
-        }
-        Place::Placed => Ok(Some(out)),
-        Place::Crossing => Ok(None),
+        Relation::Joint(both) => Ok(Some(both)),
+        Relation::Crossing => Ok(None),
     }
 }

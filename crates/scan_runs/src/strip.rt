@@ -1,11 +1,11 @@
 // The rows of octagons in strips: neighbouring rows whose run ends move in straight lines.
 ghost use Rattle.std.specs.Prelude.{◌≡◌, ◌⊎◌, ℕ, ◌^◌, ◌≤◌, List, [], ◌∷◌, ◌++◌, pos, ◌+ℤ◌, ◌≤ℤ◌, ◌<ℤ◌, IsNone, IfSome, IfOk, false};
 ghost use Rattle.plane.specs.Narrow.{IsNearZero};
-ghost use Rattle.scan_runs.specs.Inner.Parts.{AreSmall, IsSoFar, IsWithOct, AreOpenOnRows, IsKeptOpen};
+ghost use Rattle.scan_runs.specs.Inner.Parts.{IsSoFar, AreOpenOnRows, IsKeptOpen};
 ghost use Rattle.scan_runs.specs.Strips.{AreStripsAdded};
 
-use crate::merge::inserted;
-use crate::part::{Part, part_of};
+use crate::merge::merged;
+use crate::part::parts_of;
 use crate::split::split_of;
 use grid_num::Memory;
 use grid_sets::Slant;
@@ -83,34 +83,9 @@ fn straight(alloc: Global, octs: &[Oct], top: i64, more: u64) -> Result<Option<V
     ensures some { IfOk result (λ r. IfSome r (λ runs. IsSoFar octs.now top more runs.items)) }
     ensures none { IfOk result (λ r. IsNone r → 1 ≤ more) }
 {
-    let mut runs = Vec::new(alloc);
-    'octs: for oct in octs {
-        match with_oct(alloc, &runs, oct, top, more)? {
-            None => return Ok(None),
-            Some(all) => runs = all,
-        }
-    }
-    Ok(Some(runs))
-}
-
-// The runs with those of one octagon more.
-fn with_oct(
-    alloc: Global,
-    runs: &[Slant],
-    oct: &Oct,
-    top: i64,
-    more: u64,
-) -> Result<Option<Vec<Slant>>, Memory>
-    requires runs { AreSmall runs.now }
-    requires top { IsNearZero (2 ^ 40) top }
-    requires more { more ≤ 2 ^ 41 }
-    ensures some { IfOk result (λ r. IfSome r (λ all. IsWithOct oct.now top more runs.now all.items)) }
-    ensures none { IfOk result (λ r. IsNone r → 1 ≤ more) }
-{
-    match part_of(oct, top, more) {
-        Part::Absent => Ok(Some(Vec::from_slice(alloc, runs)?)),
-        Part::Along(run) => inserted(alloc, runs, run, more),
-        Part::Bent => Ok(None),
+    match parts_of(alloc, octs, top, more)? {
+        None => Ok(None),
+        Some(parts) => merged(alloc, parts, more),
     }
 }
 

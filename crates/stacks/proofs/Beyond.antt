@@ -5,7 +5,7 @@ use Rattle.std.proofs.lemmas.Int.{ints, by_lt_z}
 use Rattle.grid_num.proofs.Products.{mul_le, mul_add}
 use Rattle.octagon.specs.Inner.Hull.{IsGreater}
 use Rattle.stacks.specs.declared.reach.Reach.{Reach}
-use Rattle.stacks.specs.Inner.Reaches.{IsReached, IsFarther, scaled, turn}
+use Rattle.stacks.specs.Inner.Reaches.{IsWithinReach, IsFarther, scaled, turn}
 use Rattle.stacks.specs.Inner.Fits.{Keeps, IsRightFit, IsRightDownFit, IsQuarterFit, IsFit}
 use Rattle.stacks.proofs.Reached.{turned_reached, reached_turned}
 
@@ -82,7 +82,7 @@ kept_side : (own other most far here x z : ℤ) → IsGreater own other most →
 kept_side own other most far here x z g (inl l) m b f = omega (arith, ints, g.is, l, m)
 kept_side own other most far here x z g (inr l) m b f = omega (arith, ints, l, b, f)
 
-beyond_right : (p q h : Reach) (x y : ℤ) → IsFarther p q h → IsRightFit p q h → IsReached h x y → p.right <ℤ x → IsReached q x y
+beyond_right : (p q h : Reach) (x y : ℤ) → IsFarther p q h → IsRightFit p q h → IsWithinReach h x y → p.right <ℤ x → IsWithinReach q x y
 beyond_right p q h x y f (inl l) r b = absurd (omega (arith, ints, f.right.is, l, r.right, b))
 beyond_right p q h x y f (inr g) r b = record {
   right = own_side p.right q.right h.right x f.right r.right b;
@@ -95,7 +95,7 @@ beyond_right p q h x y f (inr g) r b = record {
   left = omega (arith, ints, g.left, b);
 }
 
-beyond_right_down : (p q h : Reach) (x y : ℤ) → IsFarther p q h → IsRightDownFit p q h → IsReached h x y → p.right_down <ℤ (x +ℤ y) → IsReached q x y
+beyond_right_down : (p q h : Reach) (x y : ℤ) → IsFarther p q h → IsRightDownFit p q h → IsWithinReach h x y → p.right_down <ℤ (x +ℤ y) → IsWithinReach q x y
 beyond_right_down p q h x y f (inl l) r b = absurd (omega (arith, ints, f.right_down.is, l, r.right_down, b))
 beyond_right_down p q h x y f (inr g) r b = record {
   right_down = own_side p.right_down q.right_down h.right_down (x +ℤ y) f.right_down r.right_down b;
@@ -114,11 +114,11 @@ record IsShort (p : Reach) (x y : ℤ) : Type 0 where
   pub right : x ≤ℤ p.right
   pub right_down : (x +ℤ y) ≤ℤ p.right_down
 
-quarter : (p q h : Reach) (x y : ℤ) → IsFarther p q h → IsQuarterFit p q h → IsReached h x y → IsShort p x y ⊎ IsReached q x y
+quarter : (p q h : Reach) (x y : ℤ) → IsFarther p q h → IsQuarterFit p q h → IsWithinReach h x y → IsShort p x y ⊎ IsWithinReach q x y
 quarter p q h x y f g r =
-    by_lt_z {P = IsShort p x y ⊎ IsReached q x y} p.right x
+    by_lt_z {P = IsShort p x y ⊎ IsWithinReach q x y} p.right x
     (λ b. inr (beyond_right p q h x y f g.right r b))
-    (λ l. by_lt_z {P = IsShort p x y ⊎ IsReached q x y} p.right_down (x +ℤ y)
+    (λ l. by_lt_z {P = IsShort p x y ⊎ IsWithinReach q x y} p.right_down (x +ℤ y)
     (λ b. inr (beyond_right_down p q h x y f g.right_down r b))
     (λ m. inl (record { right = l; right_down = m })))
 
@@ -135,23 +135,23 @@ turned_farther p q h f = record {
 }
 
 -- the quarter seen from where it was turned
-turned_quarter : (p q h : Reach) (x y : ℤ) → IsFarther p q h → IsQuarterFit (turn p) (turn q) (turn h) → IsReached h x y → IsShort (turn p) y (neg_ℤ x) ⊎ IsReached q x y
+turned_quarter : (p q h : Reach) (x y : ℤ) → IsFarther p q h → IsQuarterFit (turn p) (turn q) (turn h) → IsWithinReach h x y → IsShort (turn p) y (neg_ℤ x) ⊎ IsWithinReach q x y
 turned_quarter p q h x y f g r =
     elim (quarter (turn p) (turn q) (turn h) y (neg_ℤ x) (turned_farther p q h f) g (turned_reached h x y r)) [
       | inl s ↦ inl s
       | inr w ↦ inr (reached_turned q x y w)
     ]
 
-third_quarter : (p q h : Reach) (x y : ℤ) → IsFarther p q h → IsQuarterFit (turn (turn p)) (turn (turn q)) (turn (turn h)) → IsReached h x y
-    → IsShort (turn (turn p)) (neg_ℤ x) (neg_ℤ y) ⊎ IsReached q x y
+third_quarter : (p q h : Reach) (x y : ℤ) → IsFarther p q h → IsQuarterFit (turn (turn p)) (turn (turn q)) (turn (turn h)) → IsWithinReach h x y
+    → IsShort (turn (turn p)) (neg_ℤ x) (neg_ℤ y) ⊎ IsWithinReach q x y
 third_quarter p q h x y f g r =
     elim (turned_quarter (turn p) (turn q) (turn h) y (neg_ℤ x) (turned_farther p q h f) g (turned_reached h x y r)) [
       | inl s ↦ inl s
       | inr w ↦ inr (reached_turned q x y w)
     ]
 
-fourth_quarter : (p q h : Reach) (x y : ℤ) → IsFarther p q h → IsQuarterFit (turn (turn (turn p))) (turn (turn (turn q))) (turn (turn (turn h))) → IsReached h x y
-    → IsShort (turn (turn (turn p))) (neg_ℤ y) (neg_ℤ (neg_ℤ x)) ⊎ IsReached q x y
+fourth_quarter : (p q h : Reach) (x y : ℤ) → IsFarther p q h → IsQuarterFit (turn (turn (turn p))) (turn (turn (turn q))) (turn (turn (turn h))) → IsWithinReach h x y
+    → IsShort (turn (turn (turn p))) (neg_ℤ y) (neg_ℤ (neg_ℤ x)) ⊎ IsWithinReach q x y
 fourth_quarter p q h x y f g r =
     elim (third_quarter (turn p) (turn q) (turn h) y (neg_ℤ x) (turned_farther p q h f) g (turned_reached h x y r)) [
       | inl s ↦ inl s
@@ -159,7 +159,7 @@ fourth_quarter p q h x y f g r =
     ]
 
 short : (p : Reach) (x y : ℤ) → IsShort p x y → IsShort (turn p) y (neg_ℤ x) → IsShort (turn (turn p)) (neg_ℤ x) (neg_ℤ y)
-    → IsShort (turn (turn (turn p))) (neg_ℤ y) (neg_ℤ (neg_ℤ x)) → IsReached p x y
+    → IsShort (turn (turn (turn p))) (neg_ℤ y) (neg_ℤ (neg_ℤ x)) → IsWithinReach p x y
 short p x y a b c d = record {
   right = a.right;
   right_down = a.right_down;
@@ -171,7 +171,7 @@ short p x y a b c d = record {
   right_up = omega (arith, ints, d.right_down);
 }
 
-one_of_both : (p q h : Reach) (x y : ℤ) → IsFarther p q h → IsFit p q h → IsReached h x y → IsReached p x y ⊎ IsReached q x y
+one_of_both : (p q h : Reach) (x y : ℤ) → IsFarther p q h → IsFit p q h → IsWithinReach h x y → IsWithinReach p x y ⊎ IsWithinReach q x y
 one_of_both p q h x y f g r =
     elim (quarter p q h x y f g.first r) [
       | inr w ↦ inr w
@@ -187,7 +187,7 @@ one_of_both p q h x y f g r =
       ]
     ]
 
-pub fit_scaled : (k : ℕ) (p q h : Reach) (x y : ℤ) → IsFarther p q h → IsFit p q h → IsReached (scaled k h) x y → IsReached (scaled k p) x y ⊎ IsReached (scaled k q) x y
+pub fit_scaled : (k : ℕ) (p q h : Reach) (x y : ℤ) → IsFarther p q h → IsFit p q h → IsWithinReach (scaled k h) x y → IsWithinReach (scaled k p) x y ⊎ IsWithinReach (scaled k q) x y
 fit_scaled k p q h x y f g r =
     one_of_both (scaled k p) (scaled k q) (scaled k h) x y (farther k p q h f)
     (record {

@@ -3,3 +3,4 @@ pub mod Reached
 pub mod Beyond
 pub mod Unions
 pub mod Lists
+pub mod Places

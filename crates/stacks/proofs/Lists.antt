@@ -1,19 +1,20 @@
 -- Stacks to which pieces are put.
 use Rattle.std.proofs.Common.{◌≡◌, refl, sym, subst, ap, ◌∙◌, ℕ, zero, suc, ◌+◌, ◌<◌, ◌≤◌, ◌⊎◌, inl, inr, arith, List, [], ◌∷◌, ◌++◌, length, get_or, set, take}
-use Rattle.std.specs.Prelude.{◌↔◌, Result, Ok, Err, IfOk}
+use Rattle.std.specs.Prelude.{◌↔◌, Any}
 use Rattle.std.specs.List.{All}
 use Rattle.std.proofs.lemmas.Int.{ints}
 use Rattle.std.proofs.lemmas.List.Elements.{All-cons, All-nil, All-append, All-set}
 use Rattle.std.proofs.Math.Seq.{take-suc}
 use Rattle.std.proofs.lemmas.List.{length-set, get_or_default}
-use Rattle.plane.specs.Plane.{PlanePoint, Bounds, In, StrictlyIn, IsOct}
+use Rattle.std.proofs.lemmas.Option.{slice_get_read}
+use Rattle.plane.specs.Plane.{PlanePoint, Bounds, In, StrictlyIn, IsOct, IsMeeting}
 use Rattle.plane.proofs.Inside.{IsInside}
 use Rattle.plane.proofs.Lists.{any_none, any_head, any_tail, any_cases, any_left, any_right, any_parts}
 use Rattle.grid_num.proofs.Products.{mul_le}
 use Rattle.octagon.specs.Room.{IsAround}
 use Rattle.strips.specs.Strips.{HasInside}
-use Rattle.stacks.specs.Stacks.{IsHull, IsUnion, IsInSome, HaveSameUnion}
-use Rattle.stacks.specs.Inner.Piles.{IsPut, AreStacked}
+use Rattle.stacks.specs.Stacks.{IsHull, IsUnion, HaveSameUnion}
+use Rattle.stacks.specs.Inner.Piles.{IsPieceAdded, IsPutTo, AreStacked}
 use Rattle.stacks.proofs.Unions.{hull_first}
 
 -- ---- the octagon round two
@@ -45,7 +46,7 @@ hull_around m a b h w u v = record {
 
 -- ---- a piece is put to a stack
 put_points : (xs : List Bounds) (k : ℕ) (q h : Bounds) (p : PlanePoint) → k < length xs → ((d : Bounds) → IsUnion (get_or xs k d) q h)
-    → IsInSome (set xs k h) p ↔ (IsInSome xs p ⊎ In q p)
+    → Any (λ b. In b p) (set xs k h) ↔ (Any (λ b. In b p) xs ⊎ In q p)
 unfolding IsUnion
 put_points [] k q h p l u = absurd (omega (arith, l))
 put_points (x ∷ xs) zero q h p l u = (
@@ -76,7 +77,7 @@ put_points (x ∷ xs) (suc k) q h p l u =
       ],
     )
 
-pub put_set : (xs : List Bounds) (k : ℕ) (a q h : Bounds) → k < length xs → a ≡ get_or xs k a → IsHull a q h → IsUnion a q h → IsPut xs q (set xs k h)
+put_set : (xs : List Bounds) (k : ℕ) (a q h : Bounds) → k < length xs → a ≡ get_or xs k a → IsHull a q h → IsUnion a q h → IsPieceAdded xs q (set xs k h)
 put_set xs k a q h l e w u = record {
   points = λ p. put_points xs k q h p l (λ d. subst (λ (z : Bounds). IsUnion z q h) (e ∙ get_or_default xs k a d l) u);
   thick = λ all piece. All-set (λ b. HasInside b) xs k h (hull_thick a q h w (subst (λ (z : Bounds). HasInside z) (sym e) (all k a l))) all;
@@ -84,12 +85,27 @@ put_set xs k a q h l e w u = record {
   count = let n = length-set xs k h in omega (arith, n);
 }
 
+-- a is the stack as it was asked whether it meets the piece, b as it was joined to it
+pub put_to_set : (xs : List Bounds) (k : ℕ) (a b q h : Bounds) → k < length xs → a ≡ get_or xs k a → b ≡ get_or xs k b → IsMeeting a q → IsHull b q h → IsUnion b q h
+    → IsPutTo xs q k (set xs k h)
+put_to_set xs k a b q h l e f m w u = record {
+  put = put_set xs k b q h l f w u;
+  which = inr (record {
+    before = b;
+    after = h;
+    there = slice_get_read xs (length xs) k b refl l f;
+    meet = subst (λ (z : Bounds). IsMeeting z q) (e ∙ (get_or_default xs k a b l ∙ sym f)) m;
+    union = u;
+    stacks = refl;
+  });
+}
+
 length_more : (xs : List Bounds) (q : Bounds) → length (xs ++ q ∷ []) ≡ suc (length xs)
 length_more [] q = omega arith
 length_more (x ∷ xs) q = let l = length_more xs q in omega (arith, l)
 
 -- ---- a piece begins a stack
-pub put_more : (xs : List Bounds) (q : Bounds) → IsPut xs q (xs ++ q ∷ [])
+put_more : (xs : List Bounds) (q : Bounds) → IsPieceAdded xs q (xs ++ q ∷ [])
 put_more xs q = record {
   points = λ p. (
     λ a. elim (any_parts (λ b. In b p) xs (q ∷ []) a) [
@@ -106,9 +122,8 @@ put_more xs q = record {
   count = let n = length_more xs q in omega (arith, n);
 }
 
-pub ok_of : {A E : Type 0} (P : Type 0) (r : Result A E) → P → IfOk r (λ x. P)
-ok_of P (Ok x) h = h
-ok_of P (Err e) h = tt
+pub put_to_more : (xs : List Bounds) (q : Bounds) (n : ℕ) → n ≡ length xs → IsPutTo xs q n (xs ++ q ∷ [])
+put_to_more xs q n e = record { put = put_more xs q; which = inl (record { number = e; stacks = refl }) }
 
 -- ---- one piece after another
 pub stacked_none : AreStacked [] []
@@ -128,7 +143,7 @@ all_last : (P : Bounds → Type 0) (xs : List Bounds) (q : Bounds) → All P (xs
 all_last P [] q a = a zero q (omega arith)
 all_last P (x ∷ xs) q a = all_last P xs q (λ k d l. a (suc k) d (omega (arith, l)))
 
-stacked_more : (front stacks new : List Bounds) (q : Bounds) → AreStacked front stacks → IsPut stacks q new → IsOct q → AreStacked (front ++ q ∷ []) new
+stacked_more : (front stacks new : List Bounds) (q : Bounds) → AreStacked front stacks → IsPieceAdded stacks q new → IsOct q → AreStacked (front ++ q ∷ []) new
 stacked_more front stacks new q s u o = record {
   points = λ p. (
     λ a. elim ((u.points p).0 a) [
@@ -146,7 +161,7 @@ stacked_more front stacks new q s u o = record {
   octs = All-append IsOct front (q ∷ []) s.octs (All-cons IsOct q [] o (All-nil IsOct));
 }
 
-pub stacked_next : (pieces stacks new : List Bounds) (i : ℕ) (q : Bounds) → i < length pieces → q ≡ get_or pieces i q → AreStacked (take i pieces) stacks → IsPut stacks q new → IsOct q
+pub stacked_next : (pieces stacks new : List Bounds) (i : ℕ) (q : Bounds) → i < length pieces → q ≡ get_or pieces i q → AreStacked (take i pieces) stacks → IsPieceAdded stacks q new → IsOct q
     → AreStacked (take (i + 1) pieces) new
 stacked_next pieces stacks new i q l e s u o =
     let more : take (suc i) pieces ≡ take i pieces ++ get_or pieces i q ∷ [] = take-suc pieces i q l in

@@ -7,7 +7,7 @@ use Rattle.plane.specs.Narrow.{IsNearZero}
 use Rattle.octagon.specs.Inner.Hull.{IsGreater}
 use Rattle.octagon.proofs.Plain.{IsOct-IsSmall}
 use Rattle.stacks.specs.declared.reach.Reach.{Reach}
-use Rattle.stacks.specs.Inner.Reaches.{IsReachOf, IsSmallReach}
+use Rattle.stacks.specs.Inner.Reaches.{IsOctReach, IsSmallReach}
 use Rattle.stacks.specs.Inner.Fits.{IsRightFit, IsRightDownFit}
 
 -- a number as the code reads it, and turned round
@@ -74,7 +74,7 @@ right_down_by p q h a b c f =
 
 -- ---- the reach of an octagon
 pub reach_is : (b : Bounds) (x0 x1 y0 y1 s0 s1 d0 d1 : ℤ) → IsOct b → x0 ≡ b.x0 → x1 ≡ b.x1 → y0 ≡ b.y0 → y1 ≡ b.y1 → s0 ≡ b.s0 → s1 ≡ b.s1 → d0 ≡ b.d0 → d1 ≡ b.d1
-    → IsReachOf b (made (read x1) (read s1) (read y1) (negated d0) (negated x0) (negated s0) (negated y0) (read d1))
+    → IsOctReach b (made (read x1) (read s1) (read y1) (negated d0) (negated x0) (negated s0) (negated y0) (read d1))
 reach_is b x0 x1 y0 y1 s0 s1 d0 d1 o e0 e1 f0 f1 g0 g1 h0 h1 =
     let m = IsOct-IsSmall b o in
     record {
@@ -91,7 +91,7 @@ reach_is b x0 x1 y0 y1 s0 s1 d0 d1 o e0 e1 f0 f1 g0 g1 h0 h1 =
 near : {n : _} (a b : ℤ) → a ≡ b → IsNearZero n b → IsNearZero n a
 near a b e h = rw (e) h
 
-pub reach_small : (b : Bounds) (r : Reach) → IsOct b → IsReachOf b r → IsSmallReach r
+pub reach_small : (b : Bounds) (r : Reach) → IsOct b → IsOctReach b r → IsSmallReach r
 reach_small b r o e =
     let t = o.tight in
     record {

@@ -5,10 +5,10 @@ use Rattle.std.proofs.lemmas.Int.{ints}
 use Rattle.plane.specs.Plane.{PlanePoint, Bounds, In}
 use Rattle.grid_num.proofs.Products.{mul_neg}
 use Rattle.stacks.specs.declared.reach.Reach.{Reach}
-use Rattle.stacks.specs.Inner.Reaches.{IsReachOf, IsReached, scaled, turn}
+use Rattle.stacks.specs.Inner.Reaches.{IsOctReach, IsWithinReach, scaled, turn}
 
 -- a point of the octagon is reached
-pub in_reached : (b : Bounds) (r : Reach) (p : PlanePoint) → IsReachOf b r → In b p → IsReached (scaled p.scale r) p.x p.y
+pub in_reached : (b : Bounds) (r : Reach) (p : PlanePoint) → IsOctReach b r → In b p → IsWithinReach (scaled p.scale r) p.x p.y
 in_reached b r p e h =
     let k = p.scale in
     record {
@@ -23,7 +23,7 @@ in_reached b r p e h =
     }
 
 -- and what is reached is in the octagon
-pub reached_in : (b : Bounds) (r : Reach) (p : PlanePoint) → IsReachOf b r → IsReached (scaled p.scale r) p.x p.y → In b p
+pub reached_in : (b : Bounds) (r : Reach) (p : PlanePoint) → IsOctReach b r → IsWithinReach (scaled p.scale r) p.x p.y → In b p
 reached_in b r p e h =
     let k = p.scale in
     record {
@@ -38,7 +38,7 @@ reached_in b r p e h =
     }
 
 -- turned by a quarter
-pub turned_reached : (r : Reach) (x y : ℤ) → IsReached r x y → IsReached (turn r) y (neg_ℤ x)
+pub turned_reached : (r : Reach) (x y : ℤ) → IsWithinReach r x y → IsWithinReach (turn r) y (neg_ℤ x)
 turned_reached r x y h = record {
   right = h.down;
   right_down = omega (arith, ints, h.left_down);
@@ -50,7 +50,7 @@ turned_reached r x y h = record {
   right_up = omega (arith, ints, h.right_down);
 }
 
-pub reached_turned : (r : Reach) (x y : ℤ) → IsReached (turn r) y (neg_ℤ x) → IsReached r x y
+pub reached_turned : (r : Reach) (x y : ℤ) → IsWithinReach (turn r) y (neg_ℤ x) → IsWithinReach r x y
 reached_turned r x y h = record {
   right = omega (arith, ints, h.up);
   right_down = omega (arith, ints, h.right_up);

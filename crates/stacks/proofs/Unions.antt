@@ -11,7 +11,7 @@ use Rattle.octagon.specs.Bounded.{AreInRange}
 use Rattle.octagon.specs.Inner.Hull.{IsLesser, IsGreater}
 use Rattle.stacks.specs.declared.reach.Reach.{Reach}
 use Rattle.stacks.specs.Stacks.{IsHull, IsUnion}
-use Rattle.stacks.specs.Inner.Reaches.{IsReachOf, IsSmallReach, IsFarther}
+use Rattle.stacks.specs.Inner.Reaches.{IsOctReach, IsSmallReach, IsFarther}
 use Rattle.stacks.specs.Inner.Fits.{IsFit}
 use Rattle.stacks.proofs.Plain.{read, negated, read_axis, read_diagonal, negated_axis, negated_diagonal}
 use Rattle.stacks.proofs.Reached.{in_reached, reached_in}
@@ -58,7 +58,7 @@ turned_back a b c e f = omega (arith, ints, e, f)
 along : (a b c : ℤ) → a ≡ b → b ≡ c → a ≡ c
 along a b c e f = omega (arith, ints, e, f)
 
-code_is : (r : Reach) (b : Bounds) → IsSmallReach r → IsReachOf b r → code_bounds r ≡ b
+code_is : (r : Reach) (b : Bounds) → IsSmallReach r → IsOctReach b r → code_bounds r ≡ b
 code_is r b s e =
     let x0 = turned_back (negated r.left) r.left b.x0 (negated_axis r.left s.left) e.left in
     let x1 = along (read r.right) r.right b.x1 (read_axis r.right s.right) e.right in
@@ -72,7 +72,7 @@ code_is r b s e =
 
 -- the octagon of these bounds is the one that reaches so far
 pub octagon_is : (r : Reach) (o : Option Bounds) → IsSmallReach r → IfSome o (λ h. (x y : ℤ) → Within h x y ↔ Within (code_bounds r) x y) → IfSome o (λ h. IsOct h)
-    → IfSome o (λ h. (b : Bounds) → IsTight b → IsReachOf b r → h ≡ b)
+    → IfSome o (λ h. (b : Bounds) → IsTight b → IsOctReach b r → h ≡ b)
 octagon_is r None s p t = tt
 octagon_is r (Some h) s p t =
     λ b u e. same_points h b t.tight u (subst (λ (z : Bounds). (x y : ℤ) → Within h x y ↔ Within z x y) (code_is r b s e) p)
@@ -94,7 +94,7 @@ lesser_of a b p q h e f g = record {
   ];
 }
 
-hull_is : (a b : Bounds) (p q h : Reach) → IsReachOf a p → IsReachOf b q → IsFarther p q h → IsHull a b (hull_of h)
+hull_is : (a b : Bounds) (p q h : Reach) → IsOctReach a p → IsOctReach b q → IsFarther p q h → IsHull a b (hull_of h)
 hull_is a b p q h e f g = record {
   x0 = lesser_of a.x0 b.x0 p.left q.left h.left e.left f.left g.left;
   x1 = greater_of a.x1 b.x1 p.right q.right h.right e.right f.right g.right;
@@ -106,7 +106,7 @@ hull_is a b p q h e f g = record {
   d1 = greater_of a.d1 b.d1 p.right_up q.right_up h.right_up e.right_up f.right_up g.right_up;
 }
 
-hull_reach : (h : Reach) → IsReachOf (hull_of h) h
+hull_reach : (h : Reach) → IsOctReach (hull_of h) h
 hull_reach h = record {
   right = refl;
   right_down = refl;
@@ -137,7 +137,7 @@ pub hull_second : (a b h : Bounds) → IsHull a b h → IsInside b h
 hull_second a b h w = record { x0 = w.x0.second; x1 = w.x1.second; y0 = w.y0.second; y1 = w.y1.second; s0 = w.s0.second; s1 = w.s1.second; d0 = w.d0.second; d1 = w.d1.second }
 
 -- ---- its points
-hull_union : (a b : Bounds) (p q h : Reach) → IsReachOf a p → IsReachOf b q → IsFarther p q h → IsFit p q h → IsUnion a b (hull_of h)
+hull_union : (a b : Bounds) (p q h : Reach) → IsOctReach a p → IsOctReach b q → IsFarther p q h → IsFit p q h → IsUnion a b (hull_of h)
 unfolding IsUnion
 hull_union a b p q h e f g w z = (
   λ i. elim (fit_scaled z.scale p q h z.x z.y g w (in_reached (hull_of h) h z (hull_reach h) i)) [
@@ -150,8 +150,8 @@ hull_union a b p q h e f g w z = (
   ],
 )
 
-pub joined : (a b : Bounds) (p q h : Reach) (o : Option Bounds) → IsOct a → IsOct b → IsReachOf a p → IsReachOf b q → IsFarther p q h → IsFit p q h
-    → IfSome o (λ c. (d : Bounds) → IsTight d → IsReachOf d h → c ≡ d) → IfSome o (λ c. IsHull a b c) × IfSome o (λ c. IsUnion a b c)
+pub joined : (a b : Bounds) (p q h : Reach) (o : Option Bounds) → IsOct a → IsOct b → IsOctReach a p → IsOctReach b q → IsFarther p q h → IsFit p q h
+    → IfSome o (λ c. (d : Bounds) → IsTight d → IsOctReach d h → c ≡ d) → IfSome o (λ c. IsHull a b c) × IfSome o (λ c. IsUnion a b c)
 joined a b p q h None s t e f g w m = (tt, tt)
 joined a b p q h (Some c) s t e f g w m =
     let u = hull_is a b p q h e f g in

@@ -27,13 +27,9 @@ pub record IsHull (a b h : Bounds) : Type 0 where
 unfoldable pub IsUnion : Bounds → Bounds → Bounds → Type 0
 IsUnion a b h = (p : PlanePoint) → In h p ↔ (In a p ⊎ In b p)
 
--- the point is in one of the octagons
-abbrev pub IsInSome : List Bounds → PlanePoint → Type 0
-IsInSome octs p = Any (λ b. In b p) octs
-
 -- the stacks have just the points of the pieces together, at every scale
 unfoldable pub HaveSameUnion : List Bounds → List Bounds → Type 0
-HaveSameUnion pieces stacks = (p : PlanePoint) → IsInSome stacks p ↔ IsInSome pieces p
+HaveSameUnion pieces stacks = (p : PlanePoint) → Any (λ b. In b p) stacks ↔ Any (λ b. In b p) pieces
 
 -- where all pieces have points strictly inside, so have the stacks
 abbrev pub StayThick : List Bounds → List Bounds → Type 0

@@ -3,7 +3,7 @@ ghost use Rattle.std.specs.Prelude.{◌≡◌, ◌↔◌, ◌⊎◌, ◌^◌, �
 ghost use Rattle.plane.specs.Plane.{Bounds, IsOct, IsTight};
 ghost use Rattle.plane.specs.Narrow.{IsNearZero};
 ghost use Rattle.stacks.specs.Stacks.{IsHull, IsUnion};
-ghost use Rattle.stacks.specs.Inner.Reaches.{IsReachOf, IsSmallReach};
+ghost use Rattle.stacks.specs.Inner.Reaches.{IsOctReach, IsSmallReach};
 ghost use Rattle.stacks.specs.Inner.Fits.{Keeps, IsRightFit, IsRightDownFit, IsQuarterFit, IsFit};
 
 use crate::reach::{Reach, farther, reach_of, turned};
@@ -26,7 +26,7 @@ pub fn join(p: &Oct, q: &Oct) -> Option<Oct>
 // The octagon that reaches so far.
 fn octagon_of(r: Reach) -> Option<Oct>
     requires { IsSmallReach r }
-    ensures { IfSome result (λ h. (b : Bounds) → IsTight b → IsReachOf b r → h ≡ b) }
+    ensures { IfSome result (λ h. (b : Bounds) → IsTight b → IsOctReach b r → h ≡ b) }
 {
     Oct::of_bounds([
         -r.left,

@@ -1,7 +1,7 @@
 // Stacks that grow from band to band.
 ghost use Rattle.std.specs.Prelude.{◌≡◌, ◌<◌, [], false, length, IsTrue, IsNone, IfOk, IfSome};
 ghost use Rattle.plane.specs.Plane.{IsOct};
-ghost use Rattle.stacks.specs.Inner.Piles.{IsPut};
+ghost use Rattle.stacks.specs.Inner.Piles.{IsPutTo};
 
 use crate::joins::join;
 use grid_num::Memory;
@@ -60,30 +60,32 @@ impl Piles {
         self.stacks
     }
 
-    // Puts the piece to a stack with which it makes one octagon, or begins a stack. Refuses for want of memory alone.
-    pub fn put(&mut self, piece: &Oct) -> Result<(), Memory>
-        ensures put { IfOk result (λ _. IsPut self.old piece.now self.new) }
+    // Puts the piece to a stack with which it makes one octagon, or begins a stack, and tells the stack's number. Refuses for
+    // want of memory alone.
+    pub fn put(&mut self, piece: &Oct) -> Result<usize, Memory>
+        ensures put { IfOk result (λ place. IsPutTo self.old piece.now place self.new) }
         ensures oct { IfOk result (λ _. IsOct piece.now) }
     {
         self.turn_to(piece.y0());
         self.passed = first_reaching(&self.above, self.passed, piece.x0());
         match grow(&mut self.stacks, &self.above, self.passed, piece) {
-            Some(i) => {
-                let place = self.above[i].place;
+            Some((i, place)) => {
                 self.passed = i + 1;
-                self.note(place, piece.x1())
+                self.note(place, piece.x1())?;
+                Ok(place)
             }
             None => self.begin(piece),
         }
     }
 
-    // Begins a stack.
-    fn begin(&mut self, piece: &Oct) -> Result<(), Memory>
-        ensures { IfOk result (λ _. IsPut self.old piece.now self.new) }
+    // Begins a stack, and tells its number.
+    fn begin(&mut self, piece: &Oct) -> Result<usize, Memory>
+        ensures { IfOk result (λ place. IsPutTo self.old piece.now place self.new) }
     {
         let place = self.stacks.len();
         self.stacks.push(*piece)?;
-        self.note(place, piece.x1())
+        self.note(place, piece.x1())?;
+        Ok(place)
     }
 
     // Notes that a stack may go on.
@@ -117,29 +119,30 @@ fn first_reaching(ways: &[Open], from: usize, start: i64) -> usize {
     ways.len()
 }
 
-// Puts the piece to one of the next open stacks, and tells to which.
-fn grow(stacks: &mut Vec<Oct>, ways: &[Open], from: usize, piece: &Oct) -> Option<usize>
-    ensures within { IfSome result (λ i. i < length ways.now) }
-    ensures put { IfSome result (λ _. IsPut stacks.old.items piece.now stacks.new.items) }
+// Puts the piece to one of the next open stacks, and tells to which, and that stack's number.
+fn grow(stacks: &mut Vec<Oct>, ways: &[Open], from: usize, piece: &Oct) -> Option<(usize, usize)>
+    ensures within { IfSome result (λ found. found.0 < length ways.now) }
+    ensures put { IfSome result (λ found. IsPutTo stacks.old.items piece.now found.1 stacks.new.items) }
     ensures same { IsNone result → stacks.new.items ≡ stacks.old.items }
 {
     'tries: for i in from..ways.len() {
         if i - from >= TRIES {
             return None;
         }
-        if put_at(stacks, ways[i].place, piece) {
-            return Some(i);
+        let place = ways[i].place;
+        if put_at(stacks, place, piece) {
+            return Some((i, place));
         }
     }
     None
 }
 
-// Puts the piece to the stack at the place, where the two make one octagon.
+// Puts the piece to the stack at the place, where the two meet and make one octagon.
 fn put_at(stacks: &mut Vec<Oct>, place: usize, piece: &Oct) -> bool
-    ensures put { IsTrue result → IsPut stacks.old.items piece.now stacks.new.items }
+    ensures put { IsTrue result → IsPutTo stacks.old.items piece.now place stacks.new.items }
     ensures same { result ≡ false → stacks.new.items ≡ stacks.old.items }
 {
-    if place >= stacks.len() {
+    if place >= stacks.len() || !stacks[place].meets(piece) {
         return false;
     }
     match join(&stacks[place], piece) {

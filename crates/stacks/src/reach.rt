@@ -2,7 +2,7 @@
 ghost use Rattle.std.specs.Prelude.{◌≡◌};
 ghost use Rattle.plane.specs.Plane.{IsOct};
 ghost use Rattle.octagon.specs.Inner.Hull.{IsGreater};
-ghost use Rattle.stacks.specs.Inner.Reaches.{IsReachOf, IsFarther, IsSmallReach, turn};
+ghost use Rattle.stacks.specs.Inner.Reaches.{IsOctReach, IsFarther, IsSmallReach, turn};
 
 use octagon::Oct;
 
@@ -21,7 +21,7 @@ pub struct Reach {
 
 // How far the octagon reaches.
 pub fn reach_of(oct: &Oct) -> Reach
-    ensures reach { IsReachOf oct.now result }
+    ensures reach { IsOctReach oct.now result }
     ensures small { IsSmallReach result }
     ensures oct { IsOct oct.now }
 {

@@ -11,8 +11,7 @@ const RULES: Rules = Rules {
 };
 
 /// A board of four layers and four nets, up to its first zone.
-pub const HEAD: &str =
-    "(kicad_pcb (version 20221018) (layers (0 F.Cu) (1 In1.Cu) (2 In2.Cu) (31 B.Cu))
+const HEAD: &str = "(kicad_pcb (version 20221018) (layers (0 F.Cu) (1 In1.Cu) (2 In2.Cu) (31 B.Cu))
   (net 1 A) (net 2 B) (net 3 C) (net 4 D)";
 
 /// A zone from left to right: clearance 0.2 mm, thickness 0.25 mm, gap and bridges 0.5 mm.
@@ -38,7 +37,7 @@ pub fn board(alloc: Global, text: &str) -> Result<Board, Fail> {
 }
 
 /// The text of a board of these zones.
-pub fn text_of(alloc: Global, zones: &[String]) -> Result<String, AllocError> {
+fn text_of(alloc: Global, zones: &[String]) -> Result<String, AllocError> {
     let mut text = String::from_str(alloc, HEAD)?;
     for zone in zones {
         text.push_str(zone)?;

@@ -1,8 +1,8 @@
-// What no clause says of workers: that they fill beside each other, that one waits where it finds nothing to take while a task
-// is held, and that each task's gate is passed once. Two workers fill each board.
+// What no clause says of workers: that they fill beside each other, that one waits where it finds nothing to take while
+// a task is held, and that each task's gate is passed once. Two workers fill each board.
 //
-// At the gate the tasks note that they came, and some of them look there for each other, up to a number of looks. A body that
-// works on one thread, fills under the lock, or ends a worker while a task is held lets no two of them meet.
+// At the gate the tasks note that they came, and some of them look there for each other, up to a number of looks. A body
+// that works on one thread, fills under the lock, or ends a worker while a task is held lets no two of them meet.
 use crate::boards::{board, board_of, zone};
 use board_gen::generate;
 use board_model::Board;

@@ -14,10 +14,10 @@ use Rattle.fill_rules.specs.Made.{Made, no_fill}
 use Rattle.fills.specs.declared.Task as rules_task
 use Rattle.fills.specs.Fills.{task_of, IsFillOf, AreBoardFills}
 use Rattle.fills.specs.Above.{AreRanksAscending, AreFillsOfTasks, AreFillsAboveTask}
-use Rattle.knockouts.specs.Reaching.{ReachesTask, RanksLaw}
+use Rattle.knockouts.specs.Reaching.{ReachesTask, ReachByRankLaw}
 use Rattle.knockouts.proofs.Near.{ranks_above}
 use Rattle.zone_fill.specs.Task.{IsFillOfTask}
-use Rattle.zone_fill.specs.Inner.First.{AreFirstFills, IsNextTask}
+use Rattle.zone_fill.specs.First.{AreFirstFills, IsNextTask}
 use Rattle.zone_fill.specs.Inner.Reached.{AreAboveFirst}
 
 -- ---- one more at the end
@@ -104,7 +104,7 @@ above_by b n i f above true w h a = above_more b n i f above (w.0 refl) h a
 above_by b n i f above false w h a = above_same b n i above (λ r. true≢false (sym (w.1 r))) a
 
 -- one more fill is looked at
-pub above_step : (b : Board) (t : Task) (fs : List Made) (n : ℕ) (f : Made) (above into : List Made) (wanted : Bool) → RanksLaw → IsNextTask b t fs → n < length fs → f ≡ get_or fs n no_fill
+pub above_step : (b : Board) (t : Task) (fs : List Made) (n : ℕ) (f : Made) (above into : List Made) (wanted : Bool) → ReachByRankLaw → IsNextTask b t fs → n < length fs → f ≡ get_or fs n no_fill
     → IsTrue wanted ↔ ReachesTask b f.task t → into ≡ cond wanted (above ++ f ∷ []) above → AreAboveFirst b n (length fs) above → AreAboveFirst b (n + 1) (length fs) into
 above_step b t fs n f above into wanted ranks next l e w is a =
     let within = next.within in

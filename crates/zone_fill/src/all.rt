@@ -5,7 +5,7 @@ ghost use Rattle.fill_rules.specs.Tasks.{ranked};
 ghost use Rattle.fill_rules.specs.Ranking.{IsTask};
 ghost use Rattle.fills.specs.Fills.{task_of, AreBoardFills};
 ghost use Rattle.fills.specs.Above.{AreFillsAboveTask};
-ghost use Rattle.zone_fill.specs.Inner.First.{IsNextTask};
+ghost use Rattle.zone_fill.specs.First.{IsNextTask};
 
 use crate::fill::fill_task;
 use board_model::Board;
@@ -42,8 +42,13 @@ pub fn fill_all<L: Ledger>(
     Ok(fills)
 }
 
-// Those of the fills so far whose task reaches the next one.
-fn above(
+/// Those of the fills whose task reaches the next one, in rank order: what the next task is filled over. The fills are those of
+/// all tasks that rank above it.
+///
+/// # Errors
+///
+/// Want of memory.
+pub fn above(
     alloc: Global,
     board: &Board,
     fills: &[Arc<Fill>],

@@ -1,5 +1,6 @@
 //! The fill of a task, and of a whole board, as the rules of the fill define it.
-//! The layer above uses `fill_task` and `fill_all`: exactly the fills of the definition (`IsFillOf` of `fills`), one step a task.
+//! The layer above uses `fill_task` and `fill_all`: exactly the fills of the definition (`IsFillOf` of `fills`), one step a task;
+//! and `above`, which picks the fills that the next task is filled over.
 //! Octagons and grid points are in units of the grid (2 nm).
 #![tactic(auto)]
 
@@ -10,5 +11,5 @@ mod fill;
 mod live;
 mod walls;
 
-pub use all::fill_all;
+pub use all::{above, fill_all};
 pub use fill::fill_task;

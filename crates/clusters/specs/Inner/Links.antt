@@ -5,20 +5,20 @@ use Rattle.std.specs.List.Sorted.{IsNonDecreasingBy}
 use Rattle.plane.specs.Plane.{Bounds, IsMeeting}
 use Rattle.classes.specs.Classes.{IsOneOf}
 use Rattle.clusters.specs.declared.patch.Patch.{Patch}
-use Rattle.clusters.specs.Inner.Patches.{IsPatch, LeadsTo}
+use Rattle.clusters.specs.Inner.Patches.{IsPatch, IsPatchNeighbour}
 
 -- node by node
 abbrev pub ArePatchesInOrder : List Patch → Type 0
 ArePatchesInOrder ps = IsNonDecreasingBy (λ (p : Patch). p.node) ps
 
-abbrev pub hulls_of : List Patch → List Bounds
-hulls_of ps = map (λ (p : Patch). p.hull) ps
+abbrev pub patch_hulls : List Patch → List Bounds
+patch_hulls ps = map (λ (p : Patch). p.hull) ps
 
 -- patches of so many nodes, node by node, and the hulls of these patches
 pub record HasPatches (count : ℕ) (ps : List Patch) (octs : List Bounds) : Type 0 where
   pub order : ArePatchesInOrder ps
   pub each : All (IsPatch count) ps
-  pub hulls : octs ≡ hulls_of ps
+  pub hulls : octs ≡ patch_hulls ps
 
 -- the patch leads to that of node y at one of the places
 pub record LeadsInto (ps : List Patch) (p : Patch) (places : List ℕ) (y : ℕ) : Type 0 where
@@ -26,7 +26,7 @@ pub record LeadsInto (ps : List Patch) (p : Patch) (places : List ℕ) (y : ℕ)
   pub other : Patch
   pub one : IsOneOf place places
   pub there : slice_get ps place ≡ Some other
-  pub on : LeadsTo p other
+  pub on : IsPatchNeighbour p other
   pub to : other.node ≡ y
 
 -- the nodes to which the patch leads at these places were added
@@ -34,7 +34,7 @@ abbrev pub AreAdded : List Patch → Patch → List ℕ → List ℕ → List �
 AreAdded ps p places before after = (y : ℕ) → IsOneOf y after ↔ (IsOneOf y before ⊎ LeadsInto ps p places y)
 
 -- a patch of node k before place i leads to one of node y, and their hulls meet
-pub record IsWay (ps : List Patch) (k i y : ℕ) : Type 0 where
+pub record IsWayByPatches (ps : List Patch) (k i y : ℕ) : Type 0 where
   pub place : ℕ
   pub first : Patch
   pub second : Patch
@@ -44,8 +44,8 @@ pub record IsWay (ps : List Patch) (k i y : ℕ) : Type 0 where
   pub from : first.node ≡ k
   pub to : second.node ≡ y
   pub meet : IsMeeting first.hull second.hull
-  pub on : LeadsTo first second
+  pub on : IsPatchNeighbour first second
 
 -- they are the nodes to which the patches of node k before place i lead
 abbrev pub AreGathered : List Patch → ℕ → ℕ → List ℕ → Type 0
-AreGathered ps k i js = (y : ℕ) → IsOneOf y js ↔ IsWay ps k i y
+AreGathered ps k i js = (y : ℕ) → IsOneOf y js ↔ IsWayByPatches ps k i y

@@ -17,7 +17,7 @@ abbrev pub HaveCommonLayer : ℕ → ℕ → Type 0
 HaveCommonLayer m n = (l : ℕ) × (has_layer m l ≡ true) × (has_layer n l ≡ true)
 
 -- of two nodes of one net, on a common layer, and their copper touches
-pub record LeadsTo (p q : Patch) : Type 0 where
+pub record IsPatchNeighbour (p q : Patch) : Type 0 where
   pub apart : p.node ≡ q.node → ⊥
   pub net : p.net ≡ q.net
   pub layer : HaveCommonLayer p.layers q.layers

@@ -30,12 +30,12 @@ via_in b (Some (things.Zone n)) = None
 via_in b (Some things.Other) = None
 
 -- the number of the zone
-abbrev pub zone_in : Option Stamped → Option ℕ
-zone_in None = None
-zone_in (Some (things.Track n)) = None
-zone_in (Some (things.Via n)) = None
-zone_in (Some (things.Zone n)) = Some n
-zone_in (Some things.Other) = None
+abbrev pub zone_number_in : Option Stamped → Option ℕ
+zone_number_in None = None
+zone_number_in (Some (things.Track n)) = None
+zone_number_in (Some (things.Via n)) = None
+zone_number_in (Some (things.Zone n)) = Some n
+zone_number_in (Some things.Other) = None
 
 -- the track, where there is one, dirties the task of rank k
 unfoldable pub IsDirtyingTrack : Board → Option Track → ℕ → Type 0
@@ -58,5 +58,5 @@ unfoldable pub IsDirtyingNamed : Whole → Whole → Edit → ℕ → Type 0
 IsDirtyingNamed old new (edits.Track from to width layer net stamp) k = IsDirtyingTrack new.board (track_in new.board (stamped new.stamps stamp)) k
 IsDirtyingNamed old new (edits.Via at size drill top bottom net stamp) k = IsDirtyingVia new.board (via_in new.board (stamped new.stamps stamp)) k
 IsDirtyingNamed old new (edits.Drop stamp) k = IsDirtyingCopper old.board new.board (stamped old.stamps stamp) k
-IsDirtyingNamed old new (edits.Priority stamp value) k = IsDirtyingZone old.board new.board (zone_in (stamped old.stamps stamp)) k
-IsDirtyingNamed old new (edits.Clearance stamp value) k = IsDirtyingZone old.board new.board (zone_in (stamped old.stamps stamp)) k
+IsDirtyingNamed old new (edits.Priority stamp value) k = IsDirtyingZone old.board new.board (zone_number_in (stamped old.stamps stamp)) k
+IsDirtyingNamed old new (edits.Clearance stamp value) k = IsDirtyingZone old.board new.board (zone_number_in (stamped old.stamps stamp)) k

@@ -2,8 +2,8 @@
 use Rattle.std.specs.Prelude.{◌≡◌, ◌==◌, ℕ, zero, suc, ◌+◌, ◌<◌, ◌≤◌, cond, List, [], ◌∷◌, length, get_or, drop}
 
 -- no label is greater than its place
-abbrev pub AreLabels : List ℕ → Type 0
-AreLabels labels = (k : ℕ) → k < length labels → get_or labels k 0 ≤ k
+abbrev pub AreSmallLabels : List ℕ → Type 0
+AreSmallLabels labels = (k : ℕ) → k < length labels → get_or labels k 0 ≤ k
 
 -- how many stand before the first one with this label; all, where there is none
 abbrev pub place_of : ℕ → List ℕ → ℕ

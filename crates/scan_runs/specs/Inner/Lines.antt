@@ -10,12 +10,6 @@ use Rattle.grid_sets.specs.declared.Slant.{Slant}
 pub record AreEndsApart (n : ℕ) (g : ℤ) (e f : End) : Type 0 where
   pub each : (k : ℕ) → k ≤ n → (reach k e +ℤ g) ≤ℤ reach k f
 
--- on each row, m is the lesser of the two
-pub record IsLesserEnd (n : ℕ) (e f m : End) : Type 0 where
-  pub first : AreEndsApart n (pos 0) m e
-  pub second : AreEndsApart n (pos 0) m f
-  pub is : (m ≡ e) ⊎ (m ≡ f)
-
 -- on each row, m is the greater of the two
 pub record IsGreaterEnd (n : ℕ) (e f m : End) : Type 0 where
   pub first : AreEndsApart n (pos 0) e m

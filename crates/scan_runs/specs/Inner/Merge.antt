@@ -9,19 +9,6 @@ pub record AreSorted (runs : List Run) : Type 0 where
   pub low : ℤ
   pub ascending : AscendingRuns low runs
 
--- the new runs have the points of the old ones and of r
-pub record AreWith (r : Run) (old new : List Run) : Type 0 where
-  pub sorted : AreSorted new
-  pub same : (x : ℤ) → OnRuns new x ↔ (OnRuns old x ⊎ IsOnRun r x)
-
--- where the old runs are sorted and r has points
-abbrev pub IsInserted : Run → List Run → List Run → Type 0
-IsInserted r old new = AreSorted old → r.from ≤ℤ r.to → AreWith r old new
-
--- on each of the rows
-pub record IsPutIn (n : ℕ) (s : Slant) (old new : List Slant) : Type 0 where
-  pub each : (k : ℕ) → k ≤ n → IsInserted (run_down k s) (map (run_down k) old) (map (run_down k) new)
-
 -- on each row, s is the two as one run
 pub record IsUnionOfRuns (n : ℕ) (a b s : Slant) : Type 0 where
   pub filled : (k : ℕ) → k ≤ n → (run_down k a).from ≤ℤ (run_down k a).to → (run_down k b).from ≤ℤ (run_down k b).to → (run_down k s).from ≤ℤ (run_down k s).to

@@ -1,14 +1,16 @@
 -- What octagons are on a stretch of rows, and how two runs lie to each other.
-use Rattle.std.specs.Prelude.{◌⊎◌, ◌↔◌, ℕ, ◌≤◌, List, [], ◌∷◌, ◌++◌, ℤ, pos, ◌+ℤ◌, ◌≤ℤ◌}
+use Rattle.std.specs.Prelude.{◌≡◌, ◌⊎◌, ◌↔◌, ℕ, ◌≤◌, List, [], ◌∷◌, ◌++◌, map, All, ℤ, pos, ◌+ℤ◌, ◌≤ℤ◌}
 use Rattle.plane.specs.Plane.{Bounds, Within}
 use Rattle.scan_runs.specs.Inner.Lines.{AreEndsApart, IsAlong, IsAbsent}
-use Rattle.scan_runs.specs.Inner.Merge.{IsUnionOfRuns, IsPutIn, AreStraight}
+use Rattle.scan_runs.specs.Inner.Merge.{IsUnionOfRuns, AreStraight}
+use Rattle.grid_sets.specs.Rows.{OnRuns}
+use Rattle.grid_sets.specs.Bands.{reach, run_down}
 use Rattle.grid_sets.specs.Points.{HasPoint}
 use Rattle.grid_sets.specs.declared.Slant.{Slant}
 use Rattle.scan_runs.specs.declared.part.Part.{Part}
 use Rattle.scan_runs.specs.declared.part.Part.TheVariants.{Absent, Along, Bent}
 use Rattle.scan_runs.specs.declared.relation.Relation.{Relation}
-use Rattle.scan_runs.specs.declared.relation.Relation.TheVariants.{Before, After, Joint, Crossing}
+use Rattle.scan_runs.specs.declared.relation.Relation.TheVariants.{Before, Joint, Crossing}
 use Rattle.scan_runs.specs.Inner.Ends.{IsSmallEnd}
 
 -- both ends are
@@ -32,31 +34,36 @@ IsOctPart o top n Absent = IsAbsent o top n
 IsOctPart o top n (Along s) = IsSmallAlong o top n s
 IsOctPart o top n Bent = 1 ≤ n
 
--- the two as one run, and it is small
+-- the two as one run, which begins where a does, and it is small
 pub record IsSmallJoint (n : ℕ) (a b s : Slant) : Type 0 where
   pub small : IsSmallSlant s
   pub joint : IsUnionOfRuns n a b s
+  pub from : s.from ≡ a.from
 
--- a lies before b or after it, is one run with it, or maybe crosses it, which wants more than one row
+-- a lies before b, is one run with it, or maybe crosses it, which wants more than one row
 abbrev pub IsRelation : ℕ → Slant → Slant → Relation → Type 0
 IsRelation n a b Before = AreEndsApart n (pos 2) a.to b.from
-IsRelation n a b After = AreEndsApart n (pos 2) b.to a.from
 IsRelation n a b (Joint s) = IsSmallJoint n a b s
 IsRelation n a b Crossing = 1 ≤ n
 
--- the new runs are the old ones with s put in, on each row
-pub record IsGoodInsertion (n : ℕ) (s : Slant) (old new : List Slant) : Type 0 where
-  pub put : IsPutIn n s old new
-  pub small : AreSmall new
+-- the slant has points on each row, and is small
+pub record IsPart (n : ℕ) (s : Slant) : Type 0 where
+  pub small : IsSmallSlant s
+  pub filled : (k : ℕ) → k ≤ n → reach k s.from ≤ℤ reach k s.to
+
+-- on each row the slants have the octagons' points
+pub record ArePartsOf (os : List Bounds) (top : ℤ) (n : ℕ) (ss : List Slant) : Type 0 where
+  pub each : All (λ s. IsPart n s) ss
+  pub same : (k : ℕ) (x : ℤ) → k ≤ n → OnRuns (map (run_down k) ss) x ↔ HasPoint os x (top +ℤ pos k)
+
+-- the new slants also have the points of o, whatever octagons the old ones are of
+pub record IsWith (o : Bounds) (top : ℤ) (n : ℕ) (old new : List Slant) : Type 0 where
+  pub more : (os : List Bounds) → ArePartsOf os top n old → ArePartsOf (os ++ o ∷ []) top n new
 
 -- on each row the slants are the runs of the octagons' points
 pub record IsSoFar (os : List Bounds) (top : ℤ) (n : ℕ) (ss : List Slant) : Type 0 where
   pub straight : AreStraight (HasPoint os) top n ss
   pub small : AreSmall ss
-
--- the new slants also have the runs of o, whatever octagons the old ones are of
-pub record IsWithOct (o : Bounds) (top : ℤ) (n : ℕ) (old new : List Slant) : Type 0 where
-  pub more : (os : List Bounds) → IsSoFar os top n old → IsSoFar (os ++ o ∷ []) top n new
 
 -- on these rows the open octagons have the points that all have
 pub record AreOpenOnRows (os : List Bounds) (top : ℤ) (n : ℕ) (open' : List Bounds) : Type 0 where

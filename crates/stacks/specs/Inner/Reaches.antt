@@ -6,7 +6,7 @@ use Rattle.octagon.specs.Inner.Hull.{IsGreater}
 use Rattle.stacks.specs.declared.reach.Reach.{Reach}
 
 -- r is how far b reaches: its upper bounds, and its lower ones turned round
-pub record IsReachOf (b : Bounds) (r : Reach) : Type 0 where
+pub record IsOctReach (b : Bounds) (r : Reach) : Type 0 where
   pub right : r.right ≡ b.x1
   pub right_down : r.right_down ≡ b.s1
   pub down : r.down ≡ b.y1
@@ -67,7 +67,7 @@ scaled k r =
     }
 
 -- x and y are no farther to any side
-pub record IsReached (r : Reach) (x y : ℤ) : Type 0 where
+pub record IsWithinReach (r : Reach) (x y : ℤ) : Type 0 where
   pub right : x ≤ℤ r.right
   pub right_down : (x +ℤ y) ≤ℤ r.right_down
   pub down : y ≤ℤ r.down

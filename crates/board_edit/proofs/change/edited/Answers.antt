@@ -3,7 +3,7 @@ use Rattle.std.proofs.lemmas.Result.{err_from_is_err_and}
 use Rattle.sexpr_text.specs.Trees.{IsRoot}
 use Rattle.board_items.specs.Stamps.{stamped}
 use Rattle.edit_language.proofs.Written.{written}
-use Rattle.board_edit.specs.Edited.{IsRefusal}
+use Rattle.board_edit.specs.Edited.{IsEditRefusal}
 use Rattle.board_edit.specs.Inner.Boards.{IsBoardRefusal}
 use Rattle.board_edit.proofs.Errors.{err_kept}
 use Rattle.board_edit.proofs.Refused.{stamp_refused, spelt, breaks}
@@ -26,6 +26,6 @@ board_of-requires c =
 pub returns-in_err-board-clause-refused : goal.returns-in_err-board-clause-refused
 returns-in_err-board-clause-refused c =
     let p = err_from_is_err_and c.from_residual-in_err-board.result c.from_residual-in_err-board.ensures.1 in
-    err_kept c.from_residual-in_err-board.result c.in_err-board.field-0.0 _ (IsRefusal c.args.text.now c.args.edit.now) p.1 p.2
+    err_kept c.from_residual-in_err-board.result c.in_err-board.field-0.0 _ (IsEditRefusal c.args.text.now c.args.edit.now) p.1 p.2
     (breaks c.args.text.now c.args.edit.now c.in_ok-new.new.items c.in_err-board.field-0.0 c.in_ok-new.ensures
     (subst (λ t. IsBoardRefusal t c.in_err-board.field-0.0) c.deref.ensures.value c.in_err-board.ensures.refused))

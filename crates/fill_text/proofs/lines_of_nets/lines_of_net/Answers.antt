@@ -2,12 +2,12 @@ use Rattle.std.proofs.Common.{sym, ◌∙◌, subst, map, List}
 use Rattle.std.specs.Arc.{arc_value}
 use Rattle.ratsnest.specs.declared.Anchor.{Anchor}
 use Rattle.ratsnest.specs.Ratsnest.{IsTree}
-use Rattle.fill_text.specs.Inner.Alike.{AreLabels}
+use Rattle.fill_text.specs.Inner.Alike.{AreSmallLabels}
 use Rattle.fill_text.proofs.NetsSaid.{labels_up, net_said}
 use Rattle.fill_text.proofs.lines_of_nets.lines_of_net.Goals as goal
 
 pub clusters_of-requires-clause-labels : goal.clusters_of-requires-clause-labels
-clusters_of-requires-clause-labels c = subst AreLabels (sym c.deref.ensures.value) (labels_up c.args.board.now.board (map arc_value c.args.fills.now) _ c.requires.labelling.clusters)
+clusters_of-requires-clause-labels c = subst AreSmallLabels (sym c.deref.ensures.value) (labels_up c.args.board.now.board (map arc_value c.args.fills.now) _ c.requires.labelling.clusters)
 
 pub returns-clause-lines : goal.returns-clause-lines
 returns-clause-lines c =

@@ -4,13 +4,13 @@ use Rattle.std.specs.Arc.{arc_value}
 use Rattle.std.proofs.lemmas.List.{get_or_read}
 use Rattle.std.proofs.lemmas.List.Elements.{All-push}
 use Rattle.output_rules.specs.Shown.{net_shown, IsNetInRange}
-use Rattle.fill_text.specs.Inner.Alike.{AreLabels}
+use Rattle.fill_text.specs.Inner.Alike.{AreSmallLabels}
 use Rattle.fill_text.specs.Inner.Nets.{AreEachOnce, AreLinesOfNet}
 use Rattle.fill_text.proofs.NetsSaid.{labels_up, nets_are, nets_more, nets_end}
 use Rattle.fill_text.proofs.lines_of_nets.net_lines.Goals as goal
 
 pub next_alike-requires : goal.next_alike-requires
-next_alike-requires c = subst AreLabels (sym c.deref.ensures.value) (labels_up c.args.board.now.board (map arc_value c.args.fills.now) _ c.requires.labelling.clusters)
+next_alike-requires c = subst AreSmallLabels (sym c.deref.ensures.value) (labels_up c.args.board.now.board (map arc_value c.args.fills.now) _ c.requires.labelling.clusters)
 
 pub each-preserved : goal.each-preserved
 each-preserved c =

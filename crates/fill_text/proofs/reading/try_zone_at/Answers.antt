@@ -1,5 +1,5 @@
 use Rattle.std.proofs.Common.{◌≡◌, ◌∙◌, ap, ◌<◌, [], arith, length, get_or, subst, IfOk, IfErr}
-use Rattle.fill_text.specs.FillLists.{bad_among, names_in}
+use Rattle.fill_text.specs.FillLists.{bad_among, names_of_set}
 use Rattle.fill_text.specs.Refused.{IsRefusedFor}
 use Rattle.fill_text.proofs.ReadRings.{zones_many, bad_is}
 use Rattle.fill_text.proofs.reading.try_zone_at.Goals as goal
@@ -20,7 +20,7 @@ bounds-zones-k c =
 pub returns-clause-read : goal.returns-clause-read
 returns-clause-read c =
     subst (λ bad. IfOk c.try_zone.result (λ _. bad ≡ []))
-    (ap (λ ls. bad_among c.index-zones-k-2.result.bytes (names_in ls c.index-zones-k.result.layers) c.index-zones-k-2.result.item) c.layers.ensures
+    (ap (λ ls. bad_among c.index-zones-k-2.result.bytes (names_of_set ls c.index-zones-k.result.layers) c.index-zones-k-2.result.item) c.layers.ensures
     ∙ bad_is c.args.root.now.bytes c.args.root.now.item c.requires.board.0 c.args.board.now.board c.args.zones.now c.requires.board.1 c.requires.zones c.args.k c.requires.there
     c.index-zones-k-2.result c.index-zones-k-2.is c.index-zones-k.result (c.index-zones-k.is ∙ ap (λ zs. get_or zs c.args.k c.index-zones-k.result) c.zones.ensures))
     c.try_zone.ensures.read
@@ -28,7 +28,7 @@ returns-clause-read c =
 pub returns-clause-refused : goal.returns-clause-refused
 returns-clause-refused c =
     subst (λ bad. IfErr c.try_zone.result (IsRefusedFor bad))
-    (ap (λ ls. bad_among c.index-zones-k-2.result.bytes (names_in ls c.index-zones-k.result.layers) c.index-zones-k-2.result.item) c.layers.ensures
+    (ap (λ ls. bad_among c.index-zones-k-2.result.bytes (names_of_set ls c.index-zones-k.result.layers) c.index-zones-k-2.result.item) c.layers.ensures
     ∙ bad_is c.args.root.now.bytes c.args.root.now.item c.requires.board.0 c.args.board.now.board c.args.zones.now c.requires.board.1 c.requires.zones c.args.k c.requires.there
     c.index-zones-k-2.result c.index-zones-k-2.is c.index-zones-k.result (c.index-zones-k.is ∙ ap (λ zs. get_or zs c.args.k c.index-zones-k.result) c.zones.ensures))
     c.try_zone.ensures.bad

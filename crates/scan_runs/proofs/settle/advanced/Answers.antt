@@ -1,4 +1,4 @@
-use Rattle.scan_runs.proofs.Places.{small_at}
+use Rattle.scan_runs.proofs.Walk.{small_at}
 use Rattle.scan_runs.proofs.Settled.{advanced_more}
 use Rattle.scan_runs.proofs.settle.advanced.Goals as goal
 

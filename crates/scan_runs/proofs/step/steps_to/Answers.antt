@@ -1,5 +1,5 @@
 use Rattle.std.proofs.Common.{arith, refl}
-use Rattle.scan_runs.proofs.Places.{small_at}
+use Rattle.scan_runs.proofs.Walk.{small_at}
 use Rattle.scan_runs.proofs.Steps.{good_at, steps_more, steps_stop}
 use Rattle.scan_runs.proofs.step.steps_to.Goals as goal
 

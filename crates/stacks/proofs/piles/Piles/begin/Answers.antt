@@ -1,5 +1,8 @@
-use Rattle.stacks.proofs.Lists.{put_more, ok_of}
+use Rattle.std.proofs.Common.{arith}
+use Rattle.stacks.proofs.Lists.{put_to_more}
 use Rattle.stacks.proofs.piles.Piles.begin.Goals as goal
 
 pub returns : goal.returns
-returns c = ok_of _ c.note.result (rw (c.note.ensures, ← c.self.view_is, c.in_ok-push.ensures.items) (put_more c.self.inside.stacks.items c.args.piece.now))
+returns c =
+    rw (c.note.ensures, ← c.self.view_is, c.in_ok-push.ensures.items)
+    (put_to_more c.self.inside.stacks.items c.args.piece.now c.len-place.result (omega (arith, c.len-place.ensures, c.self.inside.stacks.ok)))

@@ -1,6 +1,0 @@
-use Rattle.std.proofs.Common.{take}
-use Rattle.islands.specs.Inner.Flood.{AreSpread}
-use Rattle.islands.proofs.flood.spread.Given as goal
-
-abbrev pub invariant-each : goal.invariant-each
-invariant-each l = AreSpread (take l.j-index l.met) l.label l.fn.labels.items l.fn.members.items l.labels.items l.members.items

@@ -1,0 +1,7 @@
+mod Octs
+mod Places
+mod Again
+mod Steps
+mod Ends
+mod Counts
+mod Results
