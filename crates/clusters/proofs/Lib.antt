@@ -8,4 +8,6 @@ pub mod Rooms
 pub mod Corners
 pub mod Joined
 pub mod NodeParts
+pub mod StackParts
+pub mod SamePoints
 pub mod Ends

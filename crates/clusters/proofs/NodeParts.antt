@@ -85,10 +85,3 @@ pub part_least : (b : Board) (fills : List Made) → AreBoardFills b fills → (
 part_least b fills h r first f pieces parts m e ep el w =
     subst (λ (os : List Bounds). IsLeastCorner os m)
     (ap (λ (os : List Bounds). labelled first os parts) ep ∙ ap (λ (ls : List ℕ). labelled first f.pieces ls) el ∙ sym (part_is b fills h r first f e)) w
-
--- the copper of a part, as its pieces are read
-pub part_copper : (b : Board) (fills : List Made) → AreBoardFills b fills → (r first : ℕ) (f : Made) (pieces : List Bounds) (parts : List ℕ) → f ≡ get_or fills r no_fill
-    → pieces ≡ f.pieces → parts ≡ f.parts → map octagon_copper (labelled first pieces parts) ≡ map octagon_copper (part_pieces b fills (task_at b r) first)
-part_copper b fills h r first f pieces parts e ep el =
-    ap (map octagon_copper)
-    (ap (λ (os : List Bounds). labelled first os parts) ep ∙ ap (λ (ls : List ℕ). labelled first f.pieces ls) el ∙ sym (part_is b fills h r first f e))

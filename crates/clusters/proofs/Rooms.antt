@@ -24,10 +24,12 @@ use Rattle.board_language.proofs.Members.{one_of_map}
 use Rattle.fill_rules.specs.Tasks.{Task, ranked}
 use Rattle.fill_rules.specs.Needs.{track_copper, via_copper}
 use Rattle.fill_rules.specs.Made.{Made, no_fill}
-use Rattle.fill_rules.specs.Nodes.{Node, pad, track, via, part, made_of, rank_in}
-use Rattle.fill_rules.specs.Clusters.{option_list, labelled, part_pieces, octagon_copper, shapes_of}
+use Rattle.fill_rules.specs.Nodes.{made_of, rank_in}
+use Rattle.fill_rules.specs.Clusters.{option_list, labelled, part_pieces, octagon_copper}
 use Rattle.fill_rules.proofs.Sound.{fillable}
 use Rattle.fills.specs.Fills.{AreBoardFills}
+use Rattle.clusters.specs.declared.fill_stacks.FillStacks.{FillStacks}
+use Rattle.clusters.specs.Inner.Stacks.{AreNearStacks}
 use Rattle.knockouts.proofs.PieceRange.{piece_near, pieces_tight}
 
 -- ---- the pieces of fills
@@ -122,14 +124,14 @@ core_wider (line s t) h = record {
 wider : (c : Copper) → IsSmallShape c → IsAnchorInRoom c
 wider c h = record { core = core_wider c.core h.within; radius = let r = h.radius in omega (arith, r) }
 
-piece_room : (o : Bounds) → IsNearPiece o → IsAnchorInRoom (octagon_copper o)
+octagon_room : (o : Bounds) → IsAround 250000000 o → IsAnchorInRoom (octagon_copper o)
 unfolding IsCoreInRoom
-piece_room o h = record {
+octagon_room o h = record {
   core = record {
-    left = let a = h.near.x_low in omega (arith, ints);
-    right = let a = h.near.x_high in omega (arith, ints);
-    top = let a = h.near.y_low in omega (arith, ints);
-    bottom = let a = h.near.y_high in omega (arith, ints);
+    left = let a = h.x_low in omega (arith, ints);
+    right = let a = h.x_high in omega (arith, ints);
+    top = let a = h.y_low in omega (arith, ints);
+    bottom = let a = h.y_high in omega (arith, ints);
   };
   radius = omega arith;
 }
@@ -141,11 +143,26 @@ of_some Q f (Some x) h = All-cons Q (f x) [] (h x refl) (All-nil Q)
 of_option : {X : Type 0} (P : X → Type 0) (Q : Copper → Type 0) (f : X → Copper) (xs : List X) (k : ℕ) → All P xs → ((x : X) → P x → Q (f x)) → All Q (option_list (λ x. f x ∷ []) (slice_get xs k))
 of_option P Q f xs k all go = of_some Q f (slice_get xs k) (λ x e. go x (subst P (get_or_from_slice_get xs k x x e) (all k x (slice_get_within xs k x e))))
 
-pub shapes_room : (b : Board) → IsSoundBoard b → (fills : List Made) → AreBoardFills b fills → (n : Node) → All IsAnchorInRoom (shapes_of b fills n)
-unfolding shapes_of
-shapes_room b s fills h (pad k) = of_option (IsSoundPad (length b.layers)) IsAnchorInRoom (λ (p : Pad). p.shape) b.pads k s.pads (λ p i. wider p.shape i.shape)
-shapes_room b s fills h (track k) = of_option (IsSoundTrack (length b.layers)) IsAnchorInRoom track_copper b.tracks k s.tracks (λ t i. track_room (length b.layers) t i)
-shapes_room b s fills h (via k) = of_option (IsSoundVia (length b.layers)) IsAnchorInRoom via_copper b.vias k s.vias (λ v i. via_room (length b.layers) v i)
-shapes_room b s fills h (part t first) =
-    all_of IsAnchorInRoom (map octagon_copper (part_pieces b fills t first))
-    (λ c i. let r = one_of_map octagon_copper c (part_pieces b fills t first) i in subst IsAnchorInRoom (sym r.2) (piece_room r.0 (part_near b s fills h t first r.0 r.1)))
+-- the copper of stacks
+stacks_room : (first : ℕ) (s : FillStacks) → AreNearStacks s → All IsAnchorInRoom (map octagon_copper (labelled first s.stacks.items s.parts.items))
+stacks_room first s h =
+    all_of IsAnchorInRoom (map octagon_copper (labelled first s.stacks.items s.parts.items))
+    (λ c i. let r = one_of_map octagon_copper c (labelled first s.stacks.items s.parts.items) i in
+    subst IsAnchorInRoom (sym r.2) (octagon_room r.0 (of_all (IsAround 250000000) s.stacks.items h.near r.0 (labelled_of first s.stacks.items s.parts.items r.0 r.1))))
+
+pub parts_room : (first : ℕ) (all : List FillStacks) (k : ℕ) → All AreNearStacks all
+    → All IsAnchorInRoom (option_list (λ (s : FillStacks). map octagon_copper (labelled first s.stacks.items s.parts.items)) (slice_get all k))
+parts_room first all k h = go (slice_get all k) refl
+  where
+    go : (o : Option FillStacks) → slice_get all k ≡ o → All IsAnchorInRoom (option_list (λ (s : FillStacks). map octagon_copper (labelled first s.stacks.items s.parts.items)) o)
+    go None e = All-nil IsAnchorInRoom
+    go (Some s) e = stacks_room first s (subst AreNearStacks (get_or_from_slice_get all k s s e) (h k s (slice_get_within all k s e)))
+
+pub pads_room : (b : Board) → IsSoundBoard b → (k : ℕ) → All IsAnchorInRoom (option_list (λ (p : Pad). p.shape ∷ []) (slice_get b.pads k))
+pads_room b s k = of_option (IsSoundPad (length b.layers)) IsAnchorInRoom (λ (p : Pad). p.shape) b.pads k s.pads (λ p i. wider p.shape i.shape)
+
+pub tracks_room : (b : Board) → IsSoundBoard b → (k : ℕ) → All IsAnchorInRoom (option_list (λ (t : Track). track_copper t ∷ []) (slice_get b.tracks k))
+tracks_room b s k = of_option (IsSoundTrack (length b.layers)) IsAnchorInRoom track_copper b.tracks k s.tracks (λ t i. track_room (length b.layers) t i)
+
+pub vias_room : (b : Board) → IsSoundBoard b → (k : ℕ) → All IsAnchorInRoom (option_list (λ (v : Via). via_copper v ∷ []) (slice_get b.vias k))
+vias_room b s k = of_option (IsSoundVia (length b.layers)) IsAnchorInRoom via_copper b.vias k s.vias (λ v i. via_room (length b.layers) v i)

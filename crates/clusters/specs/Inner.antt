@@ -1,5 +1,6 @@
 pub mod Patches
-pub mod Copper
 pub mod Links
+pub mod Stacks
+pub mod Copper
 pub mod Ranks
 pub mod Corners

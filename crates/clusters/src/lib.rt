@@ -15,6 +15,7 @@ ghost use Rattle.clusters.specs.Labelling.{node_of, IsLabelling, IsEndInRange};
 mod anchors;
 mod copper;
 mod filed;
+mod fill_stacks;
 mod list;
 mod node_links;
 mod patch;
@@ -77,7 +78,6 @@ pub fn clusters(alloc: Global, board: &Board, fills: &[Arc<Fill>]) -> Result<Lab
     ensures { IfOk result (λ l. IsLabelling board.now.board (map arc_value fills.now) l) }
 {
     touching::copper_law();
-    hulls::copper_law();
     let nodes = nodes(alloc, board, fills)?;
     let count = count_of(&nodes)?;
     let nets = nets_of(alloc, board, fills, &nodes)?;

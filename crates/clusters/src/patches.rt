@@ -1,4 +1,4 @@
-// The patches of all nodes: one for each hull of each shape of their copper.
+// The patches of all nodes: one for each hull of each shape of their copper, where the stacks of a part are its shapes.
 ghost use Rattle.std.specs.Prelude.{◌≡◌, ℕ, ◌<◌, ◌^◌, length, map, flat_map, IfOk};
 ghost use Rattle.std.specs.List.{All};
 ghost use Rattle.std.specs.Arc.{arc_value};
@@ -8,9 +8,10 @@ ghost use Rattle.fill_rules.specs.Clusters.{node_net};
 ghost use Rattle.fills.specs.Fills.{AreBoardFills};
 ghost use Rattle.clusters.specs.Labelling.{node_of};
 ghost use Rattle.clusters.specs.Inner.Patches.{IsPatch};
-ghost use Rattle.clusters.specs.Inner.Copper.{patch_of, shape_patches, patches_from};
+ghost use Rattle.clusters.specs.Inner.Copper.{patch_of, shape_patches, AreNodePatches};
 
 use crate::Node;
+use crate::fill_stacks::stacks_of;
 use crate::patch::Patch;
 use crate::reading::{layers_of, shapes_of};
 use board_model::Board;
@@ -41,13 +42,15 @@ pub fn patches_of(
     requires nodes { map (node_of board.now.board) nodes.now ≡ nodes_of board.now.board (map arc_value fills.now) }
     requires nets { nets.now ≡ map (node_net board.now.board) (map (node_of board.now.board) nodes.now) }
     requires count { length nodes.now < 2 ^ 32 }
-    ensures patches { IfOk result (λ v. v.items
-        ≡ patches_from board.now.board (map arc_value fills.now) 0 (nodes_of board.now.board (map arc_value fills.now))) }
+    ensures patches { IfOk result (λ v. AreNodePatches board.now.board (map arc_value fills.now)
+        (nodes_of board.now.board (map arc_value fills.now)) (length nodes.now) v.items) }
     ensures each { IfOk result (λ v. All (IsPatch (length nodes.now)) v.items) }
 {
+    hulls::copper_law();
+    let stacks = stacks_of(alloc, board, fills)?;
     let mut patches = Vec::new(alloc);
     'each: for k in 0..nodes.len() {
-        let shapes = shapes_of(alloc, board, fills, nodes[k])?;
+        let shapes = shapes_of(alloc, board, &stacks, nodes[k])?;
         let owner = Owner {
             node: k as u32,
             net: nets[k],

@@ -10,13 +10,17 @@ ghost use Rattle.board_language.specs.declared.board.Via.{Via};
 ghost use Rattle.fill_rules.specs.Tasks.{task_at};
 ghost use Rattle.fill_rules.specs.Nodes as rules;
 ghost use Rattle.fill_rules.specs.Needs.{track_copper, via_copper};
-ghost use Rattle.fill_rules.specs.Clusters.{option_list, node_net, node_layers, shapes_of, part_pieces, labelled, octagon_copper};
+ghost use Rattle.fill_rules.specs.Clusters.{option_list, node_net, node_layers, labelled, octagon_copper};
 ghost use Rattle.fills.specs.Fills.{AreBoardFills};
 ghost use Rattle.clusters.specs.Labelling.{node_of};
+ghost use Rattle.clusters.specs.declared.fill_stacks.FillStacks.{FillStacks};
+ghost use Rattle.clusters.specs.Inner.Stacks.{AreNearStacks};
+ghost use Rattle.clusters.specs.Inner.Copper.{node_shapes};
 
 use crate::Node;
 use crate::copper::{track_copper, via_copper};
-use crate::filed::{fill_at, parts_of, pieces_of, task_of};
+use crate::filed::{fill_at, task_of};
+use crate::fill_stacks::FillStacks;
 use board_model::Board;
 use copper_shape::Shape;
 use fills::Fill;
@@ -161,37 +165,37 @@ fn only(layer: u8) -> u32
     1 << layer
 }
 
-/// The shapes of the node's copper: of a part one for each of its pieces.
+/// The shapes of the node's copper: of a part one for each of its stacks.
 pub fn shapes_of(
     alloc: Global,
     board: &Board,
-    fills: &[Arc<Fill>],
+    stacks: &[FillStacks],
     node: Node,
 ) -> Result<Vec<Shape>, Memory>
-    requires { AreBoardFills board.now.board (map arc_value fills.now) }
-    ensures shapes { IfOk result (λ v. v.items ≡ shapes_of board.now.board (map arc_value fills.now) (node_of board.now.board node)) }
+    requires { All AreNearStacks stacks.now }
+    ensures shapes { IfOk result (λ v. v.items ≡ node_shapes board.now.board stacks.now node) }
     ensures room { IfOk result (λ v. All IsAnchorInRoom v.items) }
 {
     board.sound();
-    let shapes = copper_of(alloc, board, fills, node)?;
+    let shapes = copper_of(alloc, board, stacks, node)?;
     Ok(shapes)
 }
 
-#[tactic(auto, unfolding(fill_rules::specs::Clusters::shapes_of))]
+#[tactic(auto, unfolding(crate::specs::Inner::Copper::node_shapes))]
 fn copper_of(
     alloc: Global,
     board: &Board,
-    fills: &[Arc<Fill>],
+    stacks: &[FillStacks],
     node: Node,
 ) -> Result<Vec<Shape>, Memory>
-    requires { AreBoardFills board.now.board (map arc_value fills.now) }
-    ensures { IfOk result (λ v. v.items ≡ shapes_of board.now.board (map arc_value fills.now) (node_of board.now.board node)) }
+    requires { All AreNearStacks stacks.now }
+    ensures { IfOk result (λ v. v.items ≡ node_shapes board.now.board stacks.now node) }
 {
     match node {
         Node::Pad(k) => pad_shape(alloc, board, k),
         Node::Track(k) => track_shape(alloc, board, k),
         Node::Via(k) => via_shape(alloc, board, k),
-        Node::Part { fill, first } => part_shapes(alloc, board, fills, fill, first),
+        Node::Part { fill, first } => part_shapes(alloc, stacks, fill, first),
     }
 }
 
@@ -234,42 +238,46 @@ fn via_shape(alloc: Global, board: &Board, k: u32) -> Result<Vec<Shape>, Memory>
     alone(alloc, via_copper(&vias[k as usize]))
 }
 
-// The pieces of the part; none past the last fill, of which no part is.
+// The stacks of the part; none past the last fill, of which no part is.
 fn part_shapes(
     alloc: Global,
-    board: &Board,
-    fills: &[Arc<Fill>],
+    stacks: &[FillStacks],
     fill: u32,
     first: u32,
 ) -> Result<Vec<Shape>, Memory>
-    requires { AreBoardFills board.now.board (map arc_value fills.now) }
-    ensures { IfOk result (λ v. v.items ≡ map octagon_copper
-        (part_pieces board.now.board (map arc_value fills.now) (task_at board.now.board fill) first)) }
+    requires { All AreNearStacks stacks.now }
+    ensures { IfOk result (λ v. v.items ≡ option_list
+        (λ (s : FillStacks). map octagon_copper (labelled first s.stacks.items s.parts.items)) (slice_get stacks.now fill)) }
 {
-    board.sound();
-    if fill as usize >= fills.len() {
+    if fill as usize >= stacks.len() {
         return Ok(Vec::new(alloc));
     }
-    let fill = fill_at(fills, fill as usize);
-    let shapes = piece_shapes(alloc, pieces_of(fill), parts_of(fill), first)?;
-    Ok(shapes)
+    shapes_of_stacks(alloc, &stacks[fill as usize], first)
 }
 
-// The pieces with this label, as copper.
-fn piece_shapes(
+fn shapes_of_stacks(alloc: Global, all: &FillStacks, first: u32) -> Result<Vec<Shape>, Memory>
+    requires { AreNearStacks all.now }
+    ensures { IfOk result (λ v. v.items
+        ≡ map octagon_copper (labelled first all.now.stacks.items all.now.parts.items)) }
+{
+    octagon_shapes(alloc, &all.stacks, &all.parts, first)
+}
+
+// The octagons with this label, as copper.
+fn octagon_shapes(
     alloc: Global,
-    pieces: &[Oct],
-    parts: &[u32],
+    octs: &[Oct],
+    labels: &[u32],
     first: u32,
 ) -> Result<Vec<Shape>, Memory>
-    requires count { length parts.now ≡ length pieces.now }
-    requires near { All (IsAround 250000000) pieces.now }
-    ensures { IfOk result (λ v. v.items ≡ map octagon_copper (labelled first pieces.now parts.now)) }
+    requires count { length labels.now ≡ length octs.now }
+    requires near { All (IsAround 250000000) octs.now }
+    ensures { IfOk result (λ v. v.items ≡ map octagon_copper (labelled first octs.now labels.now)) }
 {
     let mut shapes = Vec::new(alloc);
-    'each: for k in 0..pieces.len() {
-        if parts[k] == first {
-            shapes.push(Shape::of_oct(&pieces[k]))?;
+    'each: for k in 0..octs.len() {
+        if labels[k] == first {
+            shapes.push(Shape::of_oct(&octs[k]))?;
         }
     }
     Ok(shapes)
