@@ -76,11 +76,7 @@ fn add_answers(
 }
 
 /// What is printed of a filled board: of each task, in rank order, its head, its rings, and what is answered of it.
-pub fn lines_of(
-    alloc: Global,
-    filled: &FilledBoard,
-    questions: &[String],
-) -> Result<String, Memory>
+pub fn lines_of(alloc: Global, filled: &FilledBoard, questions: &[String]) -> Result<String, Memory>
     requires { AreBoardFills filled.now.board.board (map arc_value filled.now.fills.items) }
 {
     let mut text = String::new(alloc);
